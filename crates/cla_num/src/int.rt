@@ -1,0 +1,55 @@
+//! Numbers in 64 bits.
+
+ghost use Rattle.std.specs.Prelude.{◌≡◌};
+ghost use Rattle.cla_spec.specs.Numbers.{InRange};
+
+use crate::number::{GREATEST_BITS, Number};
+use crate::wide::{Wide, put_decimal};
+
+/// An integer v with `-2^B < v < 2^B`.
+#[derive(Clone, Copy, PartialEq, Eq, PartialOrd, Ord, Hash, Debug)]
+pub struct Int<const B: u32> {
+    value: i64,
+    ghost in_range: { InRange B value },
+}
+
+impl<const B: u32> Number for Int<B> {
+    ghost use Rattle.std.specs.Prelude.{refl};
+
+    ghost BITS = { B };
+
+    const BITS: u32 = B;
+
+    ghost value = { λ x. x.value };
+
+    fn of(v: i64) -> Option<Self> {
+        if B >= 1 && B <= GREATEST_BITS && v.unsigned_abs() < 1 << B {
+            Some(Int { value: v })
+        } else {
+            None
+        }
+    }
+
+    fn wide(self) -> Wide {
+        Wide::from_i64(self.value)
+    }
+
+    fn narrow(w: Wide) -> Option<Self> {
+        let value = w.as_i128();
+        if value.unsigned_abs() < 1 << B {
+            Some(Int {
+                value: value as i64,
+            })
+        } else {
+            None
+        }
+    }
+
+    fn put(self, into: &mut [u8; 40]) -> usize {
+        put_decimal(self.value as i128, into)
+    }
+
+    ghost in_range = { λ x. x.in_range };
+    ghost order = { λ x y. refl };
+    ghost equality = { λ x y. refl };
+}

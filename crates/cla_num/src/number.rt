@@ -1,0 +1,55 @@
+//! Numbers of a bounded range.
+
+ghost use Rattle.std.specs.Prelude.{◌≡◌, ℕ, ℤ, ◌≤◌, take, length, IfSome, IsSome, ◌↔◌};
+ghost use Rattle.std.specs.Ordering.{int_cmp, int_eq};
+ghost use Rattle.cla_spec.specs.Numbers.{InRange, decimal_of};
+ghost use Rattle.cla_num.specs.Bits.{IsSupported};
+
+use crate::wide::Wide;
+use std::hash::Hash;
+
+/// The greatest `BITS` of a [`Number`]. Every condition on `BITS` names this constant.
+pub const GREATEST_BITS: u32 = 47;
+
+/// Numbers of a bounded range: the integers v with `-2^BITS < v < 2^BITS`. Contracts see the
+/// integer by `value`. Equality, order and hash are those of the integers.
+pub trait Number: Copy + Ord + Eq + Hash {
+    ghost BITS: { ℕ };
+
+    /// How many bits the size of a number may have.
+    const BITS: u32;
+
+    /// The integer that a number stands for.
+    ghost value: { Self → ℤ };
+
+    /// The number of this integer. `None` exactly where it isn't in range, or `BITS` isn't from 1
+    /// to [`GREATEST_BITS`].
+    fn of(v: i64) -> Option<Self>
+        ensures value { IfSome result (λ n. value n ≡ v) }
+        ensures cause { IsSome result ↔ (IsSupported BITS × InRange BITS v) };
+
+    /// The same value, as a wide integer.
+    fn wide(self) -> Wide
+        ensures { result ≡ value self };
+
+    /// The same value, as a number. `None` exactly where it isn't in range.
+    fn narrow(w: Wide) -> Option<Self>
+        requires { IsSupported BITS }
+        ensures value { IfSome result (λ n. value n ≡ w) }
+        ensures cause { IsSome result ↔ InRange BITS w };
+
+    /// Puts the decimal text into the first bytes of `into`, and gives its length.
+    fn put(self, into: &mut [u8; 40]) -> usize
+        ensures text { take result into.new ≡ decimal_of (value self) }
+        ensures length { result ≡ length (decimal_of (value self)) }
+        ensures within { result ≤ 40 };
+
+    /// A number is in range.
+    ghost in_range: { (x : Self) → InRange BITS (value x) };
+
+    /// Order is that of the integers.
+    ghost order: { (x y : Self) → Self.cmp x y ≡ int_cmp (value x) (value y) };
+
+    /// Equality is that of the integers.
+    ghost equality: { (x y : Self) → Self.eq x y ≡ int_eq (value x) (value y) };
+}

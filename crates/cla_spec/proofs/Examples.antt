@@ -1,0 +1,33 @@
+-- Worked examples of the definitions, computed.
+use Rattle.std.specs.Prelude.{◌≡◌, ℕ, ℤ, pos, negsuc, List, [], ◌∷◌, ◌++◌, codes, Option, Some, None, refl}
+use Rattle.std.specs.Fmt.{digits}
+use Rattle.std.specs.Str.Parse.{digits_value, signed_digits_value}
+use Rattle.cla_spec.specs.Numbers.{decimal_of}
+use Rattle.cla_spec.specs.Matrix.{Matrix, exact_sum}
+use Rattle.cla_spec.specs.Lines.{lines_of}
+use Rattle.cla_spec.specs.ArrayFile.{array_in}
+use Rattle.cla_spec.specs.SumScript.{table_read_by}
+
+abbrev lf : List ℕ
+lf = 10 ∷ []
+
+abbrev pub square : List ℕ
+square = codes "%%MatrixMarket matrix array integer general" ++ lf ++ codes "2 2" ++ lf ++ codes "1" ++ lf ++ codes "3" ++ lf ++ codes "2" ++ lf ++ codes "4" ++ lf
+
+abbrev pub script : List ℕ
+script = codes "X = read(" ++ 34 ∷ codes "x.mtx" ++ 34 ∷ codes ")" ++ lf ++ codes "print(sum(X))" ++ lf
+
+pub square_is_read : array_in 47 1000 square ≡ Some (record { rows = 2; cols = 2; cells = pos 1 ∷ pos 2 ∷ pos 3 ∷ pos 4 ∷ [] })
+unfolding array_in lines_of digits
+square_is_read = refl
+
+pub script_is_read : table_read_by 1000 script ≡ Some (codes "x.mtx")
+unfolding table_read_by lines_of
+script_is_read = refl
+
+pub sum_is : exact_sum (record { rows = 2; cols = 2; cells = pos 1 ∷ pos 2 ∷ pos 3 ∷ pos 4 ∷ [] }) ≡ pos 10
+sum_is = refl
+
+pub text_is : decimal_of (negsuc 9) ≡ codes "-10"
+unfolding digits
+text_is = refl

@@ -1,0 +1,2 @@
+//! The definitions that the contracts of all crates cite, and the laws over them alone.
+#![tactic(auto)]
