@@ -5,3 +5,4 @@ pub mod Sinks
 pub mod Mem
 pub mod MemSink
 pub mod Lines
+pub mod InputFrame

@@ -1,6 +1,7 @@
 -- Input line by line: what was taken of a file, and what stands ahead.
-use Rattle.std.specs.Prelude.{◌≡◌, ℕ, ◌+◌, ◌-◌, ◌<◌, ◌≤◌, List, [], ◌++◌, drop, length, Option, Some, None, Bool, true, false, Result, Ok, Err, if◌then◌else◌}
-use Rattle.cla_spec.specs.Lines.{first_line, after_line}
+use Rattle.std.specs.Prelude.{◌≡◌, ℕ, ◌+◌, ◌-◌, ◌<◌, ◌≤◌, ◌^◌, List, [], ◌++◌, take, drop, length, Option, Some, None, Bool, true, false, Result, Ok, Err, if◌then◌else◌}
+use Rattle.std.specs.List.{position_or_len}
+use Rattle.cla_spec.specs.Lines.{is_lf, without_cr, first_line, after_line}
 use Rattle.cla_io.specs.declared.stop.InFault.{InFault}
 use Rattle.cla_io.specs.declared.stop.InFault.TheVariants.{Read, TooLong, Memory}
 use Rattle.cla_io.specs.Counts.{Rose}
@@ -31,8 +32,8 @@ line_width bytes = length bytes - length (after_line bytes)
 
 -- what next_line does to the bytes ahead
 abbrev pub TakesLine : Progress → Progress → List ℕ → List ℕ → Result Bool InFault → Type 0
-TakesLine old new bytes after (Ok true) = (0 < length bytes) × (new.line ≡ first_line bytes) × (after ≡ after_line bytes) × (new.at ≡ old.at + line_width bytes)
-TakesLine old new bytes after (Ok false) = (bytes ≡ []) × (after ≡ []) × (new.at ≡ old.at)
+TakesLine old new bytes after (Ok true) = (0 < length bytes) × (new.line ≡ first_line bytes) × (after ≡ after_line bytes) × (new.at ≡ old.at + line_width bytes) × (new.at ≤ new.limit)
+TakesLine old new bytes after (Ok false) = (bytes ≡ []) × (after ≡ []) × (new.at ≡ old.at) × (new.at ≤ new.limit)
 TakesLine old new bytes after (Err TooLong) = new.limit < old.at + line_width bytes
 TakesLine old new bytes after (Err Read) = Unit {0}
 TakesLine old new bytes after (Err Memory) = Unit {0}
@@ -54,3 +55,61 @@ InCause before now (Err Read) = Rose before now
 InCause before now (Err TooLong) = Unit {0}
 InCause before now (Err Memory) = Unit {0}
 InCause before now (Ok x) = Unit {0}
+
+-- where the next LF stands among these bytes, if there is one
+abbrev pub IsLfPlace : List ℕ → Option ℕ → Type 0
+IsLfPlace bytes None = position_or_len is_lf bytes ≡ length bytes
+IsLfPlace bytes (Some k) = (k < length bytes) × (position_or_len is_lf bytes ≡ k)
+
+-- the places that an input keeps among its bytes are in order
+pub record IsInOrder (held : List ℕ) (limit at line_start line_end lines : ℕ) : Type 0 where
+  pub limit_small : limit ≤ 2 ^ 32
+  pub taken : at ≤ length held
+  pub line : line_start ≤ line_end
+  pub line_held : line_end ≤ length held
+  pub counted : lines ≤ at
+
+-- only the bytes that are held changed
+pub record OnlyHolds (old new : Progress) : Type 0 where
+  pub at : new.at ≡ old.at
+  pub limit : new.limit ≡ old.limit
+  pub line : new.line ≡ old.line
+  pub lines : new.lines ≡ old.lines
+  pub ended : new.ended ≡ old.ended
+
+-- the bytes of the file stay the same, those that are held and those that are left to read together
+abbrev pub SameContent : Progress → Progress → Option (List ℕ) → Option (List ℕ) → Type 0
+SameContent old new None left = left ≡ None
+SameContent old new (Some bytes) None = ⊥
+SameContent old new (Some bytes) (Some bytes') = new.held ++ bytes' ≡ old.held ++ bytes
+
+-- nothing is left to read, where that is told
+abbrev pub IsAllRead : Option (List ℕ) → Type 0
+IsAllRead None = Unit {0}
+IsAllRead (Some bytes) = bytes ≡ []
+
+-- the first of these lines ends at `end`, and with its end has `width` bytes
+pub record EndsAt (bytes : List ℕ) (end width : ℕ) : Type 0 where
+  pub in_width : end ≤ width
+  pub within : width ≤ length bytes
+  pub line : first_line bytes ≡ without_cr (take end bytes)
+  pub rest : after_line bytes ≡ drop width bytes
+  pub is_width : line_width bytes ≡ width
+  pub all : width ≡ 0 → bytes ≡ []
+
+-- a line that is held is refused for its length alone
+abbrev pub OnlyTooLong : Result Bool InFault → Type 0
+OnlyTooLong (Ok more) = Unit {0}
+OnlyTooLong (Err TooLong) = Unit {0}
+OnlyTooLong (Err Read) = ⊥
+OnlyTooLong (Err Memory) = ⊥
+
+-- reading on meets no limit
+abbrev pub IsOther : InFault → Type 0
+IsOther TooLong = ⊥
+IsOther Read = Unit {0}
+IsOther Memory = Unit {0}
+
+abbrev pub IsNotTooLong : {T : Type 0} → Result T InFault → Type 0
+IsNotTooLong (Ok x) = Unit {0}
+IsNotTooLong (Err fault) = IsOther fault
