@@ -1,6 +1,6 @@
 -- Array files: the part of the NIST Matrix Market exchange format that is read today ("array format", field
 -- `integer`, symmetry `general`), in its plainest spelling: no comments, one blank in the size line, plain decimals.
-use Rattle.std.specs.Prelude.{◌≡◌, ℕ, ℤ, pos, ◌+◌, ◌*◌, ◌/◌, ◌%◌, ◌≤◌, List, [], ◌∷◌, ◌++◌, length, map, codes, Option, Some, None, Bool, ◌&&◌, ◌==◌, nat_eq, nat_le, if◌then◌else◌, slice_index_or}
+use Rattle.std.specs.Prelude.{◌≡◌, ℕ, ℤ, pos, ◌+◌, ◌*◌, ◌/◌, ◌%◌, ◌≤◌, List, [], ◌∷◌, ◌++◌, length, map, codes, Option, Some, None, Bool, ◌&&◌, ◌==◌, nat_eq, nat_le, ◌↔◌, if◌then◌else◌, slice_index_or}
 use Rattle.std.specs.List.{range_with_len, before_first, after_first}
 use Rattle.std.specs.Cmp.Lexicographic.{pointwise}
 use Rattle.std.specs.Str.Parse.{digits_value, signed_digits_value}
@@ -48,3 +48,7 @@ is_array_file bits limit text m = is_well_made bits m && nat_le (length text) li
 -- the matrix whose array file a text is, if there is one
 unfoldable pub array_in : ℕ → ℕ → List ℕ → Option Matrix
 array_in bits limit text = let m = candidate_of (lines_of text) in if is_array_file bits limit text m then Some m else None
+
+-- a text is the array file of one matrix at most, which array_in finds
+abbrev pub ArrayFilesAreFound : Type 0
+ArrayFilesAreFound = (bits limit : ℕ) (text : List ℕ) (m : Matrix) → bits ≤ 63 → (array_in bits limit text ≡ Some m) ↔ IsArrayFile bits limit text m

@@ -1,5 +1,5 @@
 -- Sum scripts: the scripts that run today. They read one table and print the sum of its entries.
-use Rattle.std.specs.Prelude.{◌≡◌, ℕ, ◌-◌, ◌≤◌, List, [], ◌∷◌, ◌++◌, length, take, drop, codes, Option, Some, None, Bool, ◌&&◌, ◌==◌, true, not, nat_le, if◌then◌else◌}
+use Rattle.std.specs.Prelude.{◌≡◌, ℕ, ◌-◌, ◌≤◌, List, [], ◌∷◌, ◌++◌, length, take, drop, codes, Option, Some, None, Bool, ◌&&◌, ◌==◌, true, not, nat_le, ◌↔◌, if◌then◌else◌}
 use Rattle.std.specs.List.{list_all}
 use Rattle.cla_spec.specs.Lines.{lines_of}
 use Rattle.cla_spec.specs.ArrayFile.{same_lines}
@@ -32,3 +32,7 @@ is_sum_script limit text name = is_text name && nat_le (length text) limit && sa
 -- the name of the table whose sum a script prints, if it is such a script
 unfoldable pub table_read_by : ℕ → List ℕ → Option (List ℕ)
 table_read_by limit text = let name = name_in (lines_of text) in if is_sum_script limit text name then Some name else None
+
+-- a sum script reads one table, whose name table_read_by finds
+abbrev pub SumScriptsAreFound : Type 0
+SumScriptsAreFound = (limit : ℕ) (text name : List ℕ) → (table_read_by limit text ≡ Some name) ↔ IsSumScript limit text name

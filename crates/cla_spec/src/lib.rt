@@ -1,2 +1,18 @@
-//! The definitions that the contracts of all crates cite, and the laws over them alone.
+//! The definitions that the contracts of all crates cite, and the laws over them alone. A law stands
+//! on a function with an empty body, whose contract it is.
 #![tactic(auto)]
+
+ghost use Rattle.cla_spec.specs.ArrayFile.{ArrayFilesAreFound};
+ghost use Rattle.cla_spec.specs.SumScript.{SumScriptsAreFound};
+
+/// A text is the array file of one matrix at most, and `array_in` finds it exactly where there is one.
+pub fn array_files_are_found()
+    ensures { ArrayFilesAreFound }
+{
+}
+
+/// A sum script reads one table, and `table_read_by` finds its name exactly where a text is one.
+pub fn sum_scripts_are_found()
+    ensures { SumScriptsAreFound }
+{
+}
