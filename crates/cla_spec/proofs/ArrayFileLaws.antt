@@ -103,3 +103,17 @@ unfolding array_in
 array_in-complete bits limit text m few f =
     let same : candidate_of (lines_of text) ≡ m = ap candidate_of f.lines ∙ candidate_of-array_lines bits m few f.well_made in
     rw (same, (is_array_file-Decides bits limit text m).1 f) refl
+
+-- a matrix that is made of its entries column by column has these entries
+pub column_by_column-from_columns : (rows cols : ℕ) (values : List ℤ) → 1 ≤ rows → length values ≡ rows * cols → column_by_column (from_columns rows cols values) ≡ values
+column_by_column-from_columns rows cols values some count =
+    let n = rows * cols in
+    let f = λ (p : ℕ). get_or values ((p % cols) * rows + p / cols) (pos 0) in
+    let g = λ (p : ℕ). get_or (map f (range_with_len 0 n)) ((p % rows) * cols + p / rows) (pos 0) in
+    sym (fill_by_all g values n (pos 0) count (λ k lt.
+      let swapped : k < cols * rows = omega (arith, mul_comm rows cols, lt) in
+      let col : k / rows < cols = (div-lt_iff_lt-mul some).1 swapped in
+      let q = (k % rows) * cols + k / rows in
+      let there : q < n = omega (arith, place_in_file cols rows k some swapped, mul_comm rows cols) in
+      sym (get_or-map-range_with_len f 0 n q q (pos 0) there (omega arith)
+        ∙ rw (mod-mul-add (k % rows) cols (k / rows) col, div-mul-add (k % rows) cols (k / rows) col, div-add-mod' k rows) refl)))

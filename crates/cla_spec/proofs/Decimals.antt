@@ -40,13 +40,18 @@ values-decimals (v ∷ vs) h =
     let others : map (signed_digits_value 10) (map decimal_of vs) ≡ vs = values-decimals vs (λ i lt. h (suc i) (omega arith)) in
     ap (λ (x : ℤ). x ∷ map (signed_digits_value 10) (map decimal_of vs)) first ∙ ap (λ (xs : List ℤ). v ∷ xs) others
 
+-- the first blank of a size line stands behind its first number
+pub blank_in_size : (m n : ℕ) → m < 2 ^ 63 → prefix_len (λ b. not (b == 32)) (decimal m ++ 32 ∷ decimal n) ≡ length (decimal m)
+blank_in_size m n small =
+    let first = decimal_is_IsNumeral m (omega arith) in
+    prefix_len-append (λ b. not (b == 32)) (decimal m) (32 ∷ decimal n) ∙ rw (eq-eqb (prefix_len (λ b. not (b == 32)) (decimal m)) (length (decimal m)) (no_blank (decimal m) first.0.1)) (omega arith)
+
 -- the two numbers of a size line
 pub numbers_of_size : (m n : ℕ) → m < 2 ^ 63 → n < 2 ^ 63
     → (digits_value 10 (before_first (λ b. b == 32) (decimal m ++ 32 ∷ decimal n)) ≡ m) × (digits_value 10 (after_first (λ b. b == 32) (decimal m ++ 32 ∷ decimal n)) ≡ n)
 numbers_of_size m n small_m small_n =
     let first = decimal_is_IsNumeral m (omega arith) in
     let second = decimal_is_IsNumeral n (omega arith) in
-    let blank : prefix_len (λ b. not (b == 32)) (decimal m ++ 32 ∷ decimal n) ≡ length (decimal m) =
-      prefix_len-append (λ b. not (b == 32)) (decimal m) (32 ∷ decimal n) ∙ rw (eq-eqb (prefix_len (λ b. not (b == 32)) (decimal m)) (length (decimal m)) (no_blank (decimal m) first.0.1)) (omega arith) in
+    let blank = blank_in_size m n small_m in
     (rw (blank, take-append_seam (decimal m) (32 ∷ decimal n)) first.1,
       rw (blank, drop-append-add (decimal m) (32 ∷ decimal n) 1) second.1)

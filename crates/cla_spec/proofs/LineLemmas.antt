@@ -38,3 +38,8 @@ unfolding lines_of first_line after_line
 lines_of-cons s h =
     ap ended_lines (split_head is_lf s) ∙ cut (before_first is_lf s) (drop (position_or_len is_lf s) s) (first_some s h)
     ∙ ap (λ (r : List ℕ). without_cr (before_first is_lf s) ∷ ended_lines (slice_split is_lf r)) (drop-drop 1 (position_or_len is_lf s) s)
+
+-- what stands behind the first line is no longer than the text
+pub after_line_shorter : (s : List ℕ) → length (after_line s) ≤ length s
+unfolding after_line
+after_line_shorter s = omega (arith, length-drop (position_or_len is_lf s + 1) s)

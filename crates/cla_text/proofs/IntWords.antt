@@ -24,7 +24,7 @@ digits_are (c ∷ cs) h =
     let more = digits_are cs p.1 in
     (IsAscii-cons c cs d.0 more.0, (d.1, more.1))
 
-numeral : (ds : List ℕ) → are_digits ds ≡ true → IsAscii ds × IsNumeral 10 ds
+pub numeral : (ds : List ℕ) → are_digits ds ≡ true → IsAscii ds × IsNumeral 10 ds
 numeral ds h =
     let p = and_parts _ _ h in
     let d = digits_are ds p.1 in
@@ -45,7 +45,7 @@ does_fit : (v : ℤ) → FitsSigned w128 v → fits_128 v ≡ true
 does_fit (pos n) h = lt-ltb _ _ h.sfits
 does_fit (negsuc n) h = lt-ltb _ _ h.sfits
 
-fits_from : (v : ℤ) → fits_128 v ≡ true → FitsSigned w128 v
+pub fits_from : (v : ℤ) → fits_128 v ≡ true → FitsSigned w128 v
 fits_from (pos n) h = record { sfits = ltb-true _ _ h }
 fits_from (negsuc n) h = record { sfits = ltb-true _ _ h }
 

@@ -1,0 +1,3 @@
+pub mod PlainDecimals
+pub mod StepLaws
+pub mod SizeLaws

@@ -1,0 +1,16 @@
+use Rattle.std.proofs.Common.{◌≡◌, ℕ, pos, ◌<◌, ◌^◌, ◌∙◌, sym, arith}
+use Rattle.std.specs.Int.RustNames.{unsigned_abs}
+use Rattle.cla_mtx.proofs.SizeLaws.{count_is}
+use Rattle.cla_mtx.proofs.size.count_in.Goals as goal
+use Rattle.cla_mtx.proofs.size.count_in.Goals.{else-v-ge1-via-then-v-ge1+else-v, else-v-ge1-via-else-v-ge1}
+
+pub returns-else-v-ge1 : goal.returns-else-v-ge1
+returns-else-v-ge1 c n some few e =
+    let is = count_is c.in-Some.v n c.in-Some.ensures.fits few (sym c.in-Some.ensures.value ∙ e) in
+    elim c.else-v-ge1.branch [
+      | else-v-ge1-via-then-v-ge1+else-v w ↦ omega (arith, rw is at w.if-v.false, few)
+      | else-v-ge1-via-else-v-ge1 w ↦ omega (arith, rw is at w.if-v-ge1.false, some)
+    ]
+
+pub returns-in-None : goal.returns-in-None
+returns-in-None c n some few e = let small : unsigned_abs (pos n) < 2 ^ 63 = omega arith in c.in-None.ensures.value (pos n) small (sym e)

@@ -1,0 +1,14 @@
+//! The reader of Matrix Market files: today array files in their plainest spelling.
+#![tactic(auto)]
+
+
+mod decimal;
+mod fault;
+mod line;
+mod size;
+
+
+
+
+pub use fault::MtxFault;
+

@@ -1,0 +1,92 @@
+//! The head of an array file: its banner and its size line.
+
+ghost use Rattle.std.specs.Prelude.{◌≡◌, ◌≤◌, pos, MatchOption};
+ghost use Rattle.cla_io.specs.State.{left};
+ghost use Rattle.cla_io.specs.InputFrame.{ReadsOn};
+ghost use Rattle.cla_io.specs.Lines.{ahead_of};
+ghost use Rattle.cla_mtx.specs.Steps.{StepWhereTold, HasReadCause};
+ghost use Rattle.cla_mtx.specs.Size.{IsSizeLine, IsNoSizeLine, IsNoCount, TakesSize, NeverSize, TakesHead, NeverHead};
+ghost use Rattle.cla_spec.specs.Numbers.{decimal_of};
+
+use crate::decimal::decimal_value;
+use crate::fault::MtxFault;
+use crate::line::{expect_line, next};
+use cla_io::{Files, Input};
+use memchr::memchr;
+
+/// The greatest number of cells of a matrix.
+const MOST_CELLS: u64 = 1 << 26;
+
+/// Takes the banner and the size line: the numbers of rows and of columns.
+pub(crate) fn read_head<F: Files>(input: &mut Input<'_, F>) -> Result<(u32, u32), MtxFault>
+    ensures same_reference { input.new.files.ghost_name ≡ input.old.files.ghost_name }
+    ensures frame { ReadsOn (F.state input.old.files.now) (F.state input.new.files.now) }
+    ensures cause { HasReadCause (F.state input.old.files.now).read_faults (F.state input.new.files.now).read_faults result }
+    ensures limit { input.new.taken.limit ≡ input.old.taken.limit }
+    ensures step { StepWhereTold TakesHead NeverHead input.old.taken input.new.taken (ahead_of input.old.taken (left (F.state input.old.files.now))) (ahead_of input.new.taken (left (F.state input.new.files.now))) result }
+{
+    match expect_line(input, b"%%MatrixMarket matrix array integer general") {
+        Ok(()) => (),
+        Err(fault) => return Err(fault),
+    }
+    match read_size(input) {
+        Ok(size) => Ok(size),
+        Err(fault) => Err(fault),
+    }
+}
+
+fn read_size<F: Files>(input: &mut Input<'_, F>) -> Result<(u32, u32), MtxFault>
+    ensures same_reference { input.new.files.ghost_name ≡ input.old.files.ghost_name }
+    ensures frame { ReadsOn (F.state input.old.files.now) (F.state input.new.files.now) }
+    ensures cause { HasReadCause (F.state input.old.files.now).read_faults (F.state input.new.files.now).read_faults result }
+    ensures limit { input.new.taken.limit ≡ input.old.taken.limit }
+    ensures step { StepWhereTold TakesSize NeverSize input.old.taken input.new.taken (ahead_of input.old.taken (left (F.state input.old.files.now))) (ahead_of input.new.taken (left (F.state input.new.files.now))) result }
+{
+    match next(input) {
+        Ok(true) => match size_in(input.line()) {
+            Some(size) => Ok(size),
+            None => Err(MtxFault::Banner { line: 1 }),
+        },
+        Ok(false) => Err(MtxFault::Banner { line: 1 }),
+        Err(fault) => Err(fault),
+    }
+}
+
+// The numbers of rows and of columns in a size line, if it is one of a matrix that isn't too large.
+fn size_in(line: &[u8]) -> Option<(u32, u32)>
+    ensures { MatchOption result (IsNoSizeLine line.now) (IsSizeLine line.now) }
+{
+    let place = match memchr(b' ', line) {
+        Some(place) => place,
+        None => return None,
+    };
+    let rows = match count_in(&line[..place]) {
+        Some(rows) => rows,
+        None => return None,
+    };
+    let cols = match count_in(&line[place + 1..]) {
+        Some(cols) => cols,
+        None => return None,
+    };
+    if u64::from(rows) * u64::from(cols) <= MOST_CELLS {
+        Some((rows, cols))
+    } else {
+        None
+    }
+}
+
+// The number of rows or of columns that a word spells.
+fn count_in(word: &[u8]) -> Option<u32>
+    ensures { MatchOption result (IsNoCount word.now) (λ n. (word.now ≡ decimal_of (pos n)) × (1 ≤ n)) }
+{
+    match decimal_value(word) {
+        Some(v) => {
+            if v >= 1 && v <= 1 << 26 {
+                Some(v as u32)
+            } else {
+                None
+            }
+        }
+        None => None,
+    }
+}
