@@ -1,13 +1,20 @@
 #![tactic(auto)]
 
+mod disk;
 mod files;
+mod mem_files;
 mod mem_sink;
+mod plan;
 mod put;
 mod sink;
+mod std_sink;
 mod stop;
 
+pub use disk::DiskFiles;
 pub use files::Files;
+pub use mem_files::MemFiles;
 pub use mem_sink::MemSink;
 pub use put::put_all;
 pub use sink::Sink;
+pub use std_sink::StdSink;
 pub use stop::{CallKind, InFault, Stop};
