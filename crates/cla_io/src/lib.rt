@@ -9,6 +9,8 @@ mod put;
 mod sink;
 mod std_sink;
 mod stop;
+#[cfg(test)]
+mod tests;
 
 pub use disk::DiskFiles;
 pub use files::Files;
