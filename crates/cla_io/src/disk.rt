@@ -61,8 +61,11 @@ impl<'r, R: rt::Files> DiskFiles<'r, R> {
     }
 }
 
-impl<R: rt::Files> Files for DiskFiles<'_, R> {
-    ghost use Rattle.std.specs.Prelude.{None, false, option_map};
+impl<'r, R: rt::Files> Files for DiskFiles<'r, R> {
+    ghost use Rattle.std.specs.Prelude.{◌≡◌, ◌≢◌, ◌<◌, None, Err, false, IsSome, length, option_map};
+    ghost use Rattle.cla_io.specs.Counts.{HasCause};
+    ghost use Rattle.cla_io.specs.Mem.{faults_after, misses_after};
+    ghost use Rattle.cla_io.specs.Reads.{OnlyReads, BeginsRead, Reads};
     ghost use Rattle.std.proofs.Common.{rules};
 
     ghost state = { λ d. record {
@@ -73,7 +76,13 @@ impl<R: rt::Files> Files for DiskFiles<'_, R> {
       steady = false;
     } };
 
-    fn begin_read(&mut self, name: &str) -> Result<bool, Stop> {
+    fn begin_read(&mut self, name: &str) -> Result<bool, Stop>
+        ensures frame { OnlyReads (⟦<DiskFiles<'r, R> as Files>⟧.state self.old) (⟦<DiskFiles<'r, R> as Files>⟧.state self.new) }
+        ensures begins { BeginsRead name.now (⟦<DiskFiles<'r, R> as Files>⟧.state self.old) (⟦<DiskFiles<'r, R> as Files>⟧.state self.new) result }
+        ensures cause { HasCause (⟦<DiskFiles<'r, R> as Files>⟧.state self.old).read_faults (⟦<DiskFiles<'r, R> as Files>⟧.state self.new).read_faults result }
+        ensures faults { (⟦<DiskFiles<'r, R> as Files>⟧.state self.new).read_faults ≡ faults_after result (⟦<DiskFiles<'r, R> as Files>⟧.state self.old).read_faults }
+        ensures missed { (⟦<DiskFiles<'r, R> as Files>⟧.state self.new).misses ≡ misses_after result (⟦<DiskFiles<'r, R> as Files>⟧.state self.old).misses }
+    {
         self.reading = None;
         let name = Name::of(self.alloc, name)?;
         match fs::open(self.rt, name.as_str()) {
@@ -96,7 +105,16 @@ impl<R: rt::Files> Files for DiskFiles<'_, R> {
         }
     }
 
-    fn read(&mut self, into: &mut [u8]) -> Result<usize, Stop> {
+    fn read(&mut self, into: &mut [u8]) -> Result<usize, Stop>
+        requires open { IsSome (⟦<DiskFiles<'r, R> as Files>⟧.state self.old).reading }
+        requires room { 0 < length into.old }
+        ensures frame { OnlyReads (⟦<DiskFiles<'r, R> as Files>⟧.state self.old) (⟦<DiskFiles<'r, R> as Files>⟧.state self.new) }
+        ensures misses { (⟦<DiskFiles<'r, R> as Files>⟧.state self.new).misses ≡ (⟦<DiskFiles<'r, R> as Files>⟧.state self.old).misses }
+        ensures reads { Reads (⟦<DiskFiles<'r, R> as Files>⟧.state self.old) (⟦<DiskFiles<'r, R> as Files>⟧.state self.new) into.new result }
+        ensures cause { HasCause (⟦<DiskFiles<'r, R> as Files>⟧.state self.old).read_faults (⟦<DiskFiles<'r, R> as Files>⟧.state self.new).read_faults result }
+        ensures no_memory { result ≢ Err Stop.Memory }
+        ensures faults { (⟦<DiskFiles<'r, R> as Files>⟧.state self.new).read_faults ≡ faults_after result (⟦<DiskFiles<'r, R> as Files>⟧.state self.old).read_faults }
+    {
         let Some(opened) = &mut self.reading else {
             unreachable!()
         };

@@ -80,7 +80,7 @@ impl MemFiles {
 }
 
 impl Files for MemFiles {
-    ghost use Rattle.std.specs.Prelude.{◌≡◌, ◌<◌, ◌↔◌, Some, Err, IsSome, Contains, length, option_map};
+    ghost use Rattle.std.specs.Prelude.{◌≡◌, ◌≢◌, ◌<◌, ◌↔◌, Some, Err, IsSome, Contains, length, option_map};
     ghost use Rattle.cla_io.specs.declared.stop.CallKind.TheVariants.{BeginRead, Read};
     ghost use Rattle.cla_io.specs.Counts.{HasCause, next_call};
     ghost use Rattle.cla_io.specs.Reads.{OnlyReads, BeginsRead, Reads};
@@ -128,6 +128,7 @@ impl Files for MemFiles {
         ensures frame { OnlyReads (⟦<MemFiles as Files>⟧.state self.old) (⟦<MemFiles as Files>⟧.state self.new) }
         ensures misses { (⟦<MemFiles as Files>⟧.state self.new).misses ≡ (⟦<MemFiles as Files>⟧.state self.old).misses }
         ensures reads { Reads (⟦<MemFiles as Files>⟧.state self.old) (⟦<MemFiles as Files>⟧.state self.new) into.new result }
+        ensures no_memory { result ≢ Err Stop.Memory }
         ensures most { TakesMost (left (⟦<MemFiles as Files>⟧.state self.old)) (length into.old) result }
         ensures cause { HasCause (⟦<MemFiles as Files>⟧.state self.old).read_faults (⟦<MemFiles as Files>⟧.state self.new).read_faults result }
         ensures numbered { calls_made Read self.new ≡ next_call (calls_made Read self.old) }
