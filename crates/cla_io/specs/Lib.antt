@@ -7,4 +7,5 @@ pub mod MemTold
 pub mod Plan
 pub mod MemSink
 pub mod MemFiles
+pub mod StdSink
 pub mod Lines

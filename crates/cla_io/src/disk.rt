@@ -4,9 +4,8 @@ use crate::files::Files;
 use crate::stop::Stop;
 use cla_num::Name;
 use std::alloc::Global;
-use std::fs;
 use std::io::{ErrorKind, Read};
-use std::rt;
+use std::{fs, rt};
 
 // A real file that is open, with its name and how many of its bytes were taken.
 #[derive(Drop)]

@@ -85,6 +85,8 @@ impl Sink for MemSink {
     }
 
     ghost faultless = { λ s steady. faultless_of s.fail.items s.faults s.unfailing steady };
+
     ghost kept_itself = { λ s. tt };
+
     ghost kept_on = { λ a b c h k. tt };
 }

@@ -13,12 +13,14 @@ pub struct StdSink<W: Write + Drop> {
 
 impl<W: Write + Drop> StdSink<W> {
     ghost use Rattle.std.specs.Prelude.{◌≡◌, None, false};
+    ghost use Rattle.cla_io.specs.StdSink.{writer_of};
 
     /// A sink that writes by `inner`.
     pub fn new(inner: W) -> StdSink<W>
         ensures told { ⟦<StdSink<W> as Sink>⟧.told result ≡ None }
         ensures faults { ⟦<StdSink<W> as Sink>⟧.faults result ≡ 0 }
         ensures steady { ⟦<StdSink<W> as Sink>⟧.steady result ≡ false }
+        ensures writer { writer_of result ≡ inner }
     {
         StdSink { inner, faults: 0 }
     }
@@ -30,6 +32,7 @@ impl<W: Write + Drop> Sink for StdSink<W> {
     ghost use Rattle.cla_io.specs.Counts.{HasCause};
     ghost use Rattle.cla_io.specs.Mem.{faults_after};
     ghost use Rattle.cla_io.specs.Sinks.{SinkWrites};
+    ghost use Rattle.cla_io.specs.StdSink.{writer_of};
     ghost use Rattle.std.proofs.Common.{rules};
 
     ghost told = { λ s. None };
@@ -49,7 +52,7 @@ impl<W: Write + Drop> Sink for StdSink<W> {
         ensures cause { HasCause (⟦<StdSink<W> as Sink>⟧.faults self.old) (⟦<StdSink<W> as Sink>⟧.faults self.new) result }
         ensures no_memory { result ≢ Err Stop.Memory }
         ensures counted { ⟦<StdSink<W> as Sink>⟧.faults self.new ≡ faults_after result (⟦<StdSink<W> as Sink>⟧.faults self.old) }
-        ensures reaches { IfOk result (λ n. Appends (W.contents self.old.inner) (W.contents self.new.inner) (take n piece.now)) }
+        ensures reaches { IfOk result (λ n. Appends (W.contents (writer_of self.old)) (W.contents (writer_of self.new)) (take n piece.now)) }
     {
         match write_some(&mut self.inner, piece) {
             Some(count) => Ok(count),
@@ -61,7 +64,9 @@ impl<W: Write + Drop> Sink for StdSink<W> {
     }
 
     ghost faultless = { λ s steady. Prim.search rules };
+
     ghost kept_itself = { λ s. tt };
+
     ghost kept_on = { λ a b c h k. tt };
 }
 

@@ -56,7 +56,12 @@ fn reads_in_pieces(rt: HostRuntime) -> Result<(), Fail> {
     ];
     assert_eq!(rt; first_bytes(&mut files, "long"), Ok(Some(long)));
     assert_eq!(rt; first_bytes(&mut files, "none"), Ok(None));
-    let short = [(Ok(2), *b"xy\0"), (Ok(0), [0; 3]), (Ok(0), [0; 3]), (Ok(0), [0; 3])];
+    let short = [
+        (Ok(2), *b"xy\0"),
+        (Ok(0), [0; 3]),
+        (Ok(0), [0; 3]),
+        (Ok(0), [0; 3]),
+    ];
     assert_eq!(rt; first_bytes(&mut files, "short"), Ok(Some(short)));
     assert_eq!(rt; files.bytes("long"), Some(b"hello".as_slice()));
     assert_eq!(rt; files.bytes("none"), None);

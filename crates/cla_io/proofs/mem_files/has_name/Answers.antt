@@ -1,4 +1,3 @@
-use Rattle.std.proofs.Common.{◌≡◌, rules}
 use Rattle.cla_io.proofs.MemMap.{told_by_get}
 use Rattle.cla_io.proofs.mem_files.has_name.Goals as goal
 

@@ -1,4 +1,4 @@
-use Rattle.std.proofs.Common.{◌≡◌, ℕ, [], sym, arith}
+use Rattle.std.proofs.Common.{[], sym, arith}
 use Rattle.std.proofs.lemmas.List.{drop_all}
 use Rattle.cla_io.proofs.MemMap.{told_by_get}
 use Rattle.cla_io.proofs.mem_files.rest_of.Goals as goal
