@@ -3,6 +3,10 @@ pub mod Counts
 pub mod Reads
 pub mod Sinks
 pub mod Mem
+pub mod MemTold
+pub mod Plan
 pub mod MemSink
+pub mod MemFiles
+pub mod StdSink
 pub mod Lines
 pub mod InputFrame

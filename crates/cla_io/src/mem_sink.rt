@@ -46,10 +46,10 @@ impl MemSink {
 }
 
 impl Sink for MemSink {
-    ghost use Rattle.std.specs.Prelude.{◌≡◌, ◌<◌, ◌≤◌, Some, Err, Contains, length, ◌↔◌};
+    ghost use Rattle.std.specs.Prelude.{◌≡◌, ◌<◌, ◌≤◌, Some, Err, Contains, IfOk, length, ◌↔◌};
     ghost use Rattle.cla_io.specs.Counts.{HasCause, next_call};
     ghost use Rattle.cla_io.specs.Sinks.{SinkWrites};
-    ghost use Rattle.cla_io.specs.Mem.{is_empty_list, faultless_of};
+    ghost use Rattle.cla_io.specs.Mem.{is_empty_list, faultless_of, faults_after};
     ghost use Rattle.cla_io.specs.MemSink.{failing_writes, writes_made};
 
     ghost told = { λ s. Some s.bytes.items };
@@ -67,6 +67,8 @@ impl Sink for MemSink {
         ensures steady { ⟦<MemSink as Sink>⟧.steady self.new ≡ ⟦<MemSink as Sink>⟧.steady self.old }
         ensures kept { ⟦<MemSink as Sink>⟧.kept self.old self.new }
         ensures cause { HasCause (⟦<MemSink as Sink>⟧.faults self.old) (⟦<MemSink as Sink>⟧.faults self.new) result }
+        ensures whole { IfOk result (λ n. n ≡ length piece.now) }
+        ensures counted { ⟦<MemSink as Sink>⟧.faults self.new ≡ faults_after result (⟦<MemSink as Sink>⟧.faults self.old) }
         ensures numbered { writes_made self.new ≡ next_call (writes_made self.old) }
         ensures planned { failing_writes self.new ≡ failing_writes self.old }
         ensures fails { (result ≡ Err Stop.Failed) ↔ Contains (failing_writes self.old) (writes_made self.new) }
@@ -83,6 +85,8 @@ impl Sink for MemSink {
     }
 
     ghost faultless = { λ s steady. faultless_of s.fail.items s.faults s.unfailing steady };
+
     ghost kept_itself = { λ s. tt };
+
     ghost kept_on = { λ a b c h k. tt };
 }

@@ -1,9 +1,9 @@
 -- What a size line that is refused can't be.
-use Rattle.std.proofs.Common.{◌≡◌, ℕ, ℤ, pos, negsuc, ◌+◌, ◌*◌, ◌^◌, ◌<◌, ◌≤◌, ◌<ℤ◌, ◌==◌, List, ◌∷◌, ◌++◌, length, take, drop, get_or, not, Option, Some, None, ap, sym, ◌∙◌, arith, length-append}
-use Rattle.std.proofs.lemmas.Int.{ints}
-use Rattle.std.proofs.Math.Seq.{take-append_seam, drop-append-add}
+use Rattle.std.proofs.Common.{to_z, of_z, ◌⊎◌, inl, inr, ◌≡◌, ℕ, ℤ, pos, negsuc, ◌+◌, ◌*◌, ◌^◌, ◌<◌, ◌≤◌, ◌<ℤ◌, ◌==◌, List, ◌∷◌, ◌++◌, length, take, drop, get_or, not, Option, Some, None, ap, sym, ◌∙◌, arith, length-append}
+use Rattle.std.proofs.lemmas.Int.{ints, to_z-of_z}
+use Rattle.std.proofs.Math.Seq.{take-append_seam, drop-append-add, get_or-append_seam}
 use Rattle.std.proofs.Math.Nat.{mul_comm, mul-le-mul_left}
-use Rattle.std.proofs.lemmas.Bool.{false_from_ne_true}
+use Rattle.std.proofs.lemmas.Bool.{false_from_ne_true, eq-eqb}
 use Rattle.std.proofs.lemmas.List.Sums.{position_or_len_is}
 use Rattle.std.proofs.lemmas.Fmt.{signed_decimal_injective}
 use Rattle.std.specs.Fmt.{decimal}
@@ -47,10 +47,19 @@ pub no_cols : (line : List ℕ) (rows cols place : ℕ) → IsFirstByte (is_byte
 no_cols line rows cols place found none s e = none cols s.a_col (small_count rows cols s).1 (size_parts line rows cols place s found e).1
 
 -- the numbers of a size line are those that its words spell
-pub same_counts : (line : List ℕ) (rows cols r k place : ℕ) → IsFirstByte (is_byte 32) line (Some place) → r < 2 ^ 32 → k < 2 ^ 32 → take place line ≡ decimal_of (pos r) → drop (place + 1) line ≡ decimal_of (pos k) → IsSize rows cols → line ≡ size_line rows cols → (r ≡ rows) × (k ≡ cols)
+pub same_counts : (line : List ℕ) (rows cols r k place : ℕ) → IsFirstByte (is_byte 32) line (Some place) → r ≤ most_cells → k ≤ most_cells → take place line ≡ decimal_of (pos r) → drop (place + 1) line ≡ decimal_of (pos k) → IsSize rows cols → line ≡ size_line rows cols → (r ≡ rows) × (k ≡ cols)
 same_counts line rows cols r k place found small_r small_k is_r is_k s e =
     let few = small_count rows cols s in
     let parts = size_parts line rows cols place s found e in
     let row : pos r ≡ pos rows = signed_decimal_injective (pos r) (pos rows) (omega arith) (omega (arith, few.0)) (sym is_r ∙ parts.0) in
     let col : pos k ≡ pos cols = signed_decimal_injective (pos k) (pos cols) (omega arith) (omega (arith, few.1)) (sym is_k ∙ parts.1) in
     (cc, cc)
+
+-- a number out of the range of counts is no count
+pub no_count : (v : ℤ) (n : ℕ) → FitsSigned w64 v → 1 ≤ n → n ≤ most_cells → decimal_of v ≡ decimal_of (pos n) → (to_z w64 (of_z w64 v) <ℤ pos 1) ⊎ (pos most_cells <ℤ to_z w64 (of_z w64 v)) → ⊥
+no_count v n fits some few e (inl low) =
+    let is : to_z w64 (of_z w64 v) ≡ pos n = to_z-of_z w64 v fits ∙ count_is v n fits few e in
+    let lower = rw is at low in omega (arith, ints)
+no_count v n fits some few e (inr high) =
+    let is : to_z w64 (of_z w64 v) ≡ pos n = to_z-of_z w64 v fits ∙ count_is v n fits few e in
+    let higher = rw is at high in omega (arith, ints)

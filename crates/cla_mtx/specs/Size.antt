@@ -17,6 +17,10 @@ IsSizeLine line size = (line ≡ size_line size.0 size.1) × IsSize size.0 size.
 abbrev pub IsNoSizeLine : List ℕ → Type 0
 IsNoSizeLine line = (rows cols : ℕ) → IsSize rows cols → line ≢ size_line rows cols
 
+-- a word is the decimal text of this number of rows or columns
+abbrev pub IsCount : List ℕ → ℕ → Type 0
+IsCount word n = (word ≡ decimal_of (pos n)) × (1 ≤ n) × (n ≤ most_cells)
+
 -- a word is the decimal text of no number of rows or columns
 abbrev pub IsNoCount : List ℕ → Type 0
 IsNoCount word = (n : ℕ) → 1 ≤ n → n ≤ most_cells → word ≢ decimal_of (pos n)

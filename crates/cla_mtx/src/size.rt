@@ -1,12 +1,11 @@
 //! The head of an array file: its banner and its size line.
 
-ghost use Rattle.std.specs.Prelude.{◌≡◌, ◌≤◌, pos, MatchOption};
+ghost use Rattle.std.specs.Prelude.{◌≡◌, MatchOption};
 ghost use Rattle.cla_io.specs.State.{left};
 ghost use Rattle.cla_io.specs.InputFrame.{ReadsOn};
 ghost use Rattle.cla_io.specs.Lines.{ahead_of};
 ghost use Rattle.cla_mtx.specs.Steps.{StepWhereTold, HasReadCause};
-ghost use Rattle.cla_mtx.specs.Size.{IsSizeLine, IsNoSizeLine, IsNoCount, TakesSize, NeverSize, TakesHead, NeverHead};
-ghost use Rattle.cla_spec.specs.Numbers.{decimal_of};
+ghost use Rattle.cla_mtx.specs.Size.{IsSizeLine, IsNoSizeLine, IsNoCount, IsCount, TakesSize, NeverSize, TakesHead, NeverHead};
 
 use crate::decimal::decimal_value;
 use crate::fault::MtxFault;
@@ -77,7 +76,7 @@ fn size_in(line: &[u8]) -> Option<(u32, u32)>
 
 // The number of rows or of columns that a word spells.
 fn count_in(word: &[u8]) -> Option<u32>
-    ensures { MatchOption result (IsNoCount word.now) (λ n. (word.now ≡ decimal_of (pos n)) × (1 ≤ n)) }
+    ensures { MatchOption result (IsNoCount word.now) (IsCount word.now) }
 {
     match decimal_value(word) {
         Some(v) => {

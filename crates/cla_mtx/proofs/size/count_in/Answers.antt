@@ -1,15 +1,15 @@
-use Rattle.std.proofs.Common.{◌≡◌, ℕ, pos, ◌<◌, ◌^◌, ◌∙◌, sym, arith}
+use Rattle.std.proofs.Common.{ℕ, pos, ◌<◌, ◌^◌, ◌∙◌, sym, inl, inr, arith}
 use Rattle.std.specs.Int.RustNames.{unsigned_abs}
-use Rattle.cla_mtx.proofs.SizeLaws.{count_is}
+use Rattle.cla_mtx.proofs.SizeLaws.{no_count}
 use Rattle.cla_mtx.proofs.size.count_in.Goals as goal
 use Rattle.cla_mtx.proofs.size.count_in.Goals.{else-v-ge1-via-then-v-ge1+else-v, else-v-ge1-via-else-v-ge1}
 
 pub returns-else-v-ge1 : goal.returns-else-v-ge1
 returns-else-v-ge1 c n some few e =
-    let is = count_is c.in-Some.v n c.in-Some.ensures.fits few (sym c.in-Some.ensures.value ∙ e) in
+    let value = sym c.in-Some.ensures.value ∙ e in
     elim c.else-v-ge1.branch [
-      | else-v-ge1-via-then-v-ge1+else-v w ↦ omega (arith, rw is at w.if-v.false, few)
-      | else-v-ge1-via-else-v-ge1 w ↦ omega (arith, rw is at w.if-v-ge1.false, some)
+      | else-v-ge1-via-then-v-ge1+else-v w ↦ no_count c.in-Some.v n c.in-Some.ensures.fits some few value (inr w.if-v.false)
+      | else-v-ge1-via-else-v-ge1 w ↦ no_count c.in-Some.v n c.in-Some.ensures.fits some few value (inl w.if-v-ge1.false)
     ]
 
 pub returns-in-None : goal.returns-in-None

@@ -17,5 +17,7 @@ pub returns-else-from-le-MOST_CELLS : goal.returns-else-from-le-MOST_CELLS
 returns-else-from-le-MOST_CELLS c rows cols size e =
     let r = c.in-Some-count_in.rows in
     let k = c.in-Some-count_in-2.cols in
-    let same = same_counts c.args.line.now rows cols r k c.in-Some.place c.in-Some.ensures ? ? c.in-Some-count_in.ensures.0 (rw take_rest at c.in-Some-count_in-2.ensures.0) size e in
-    ?
+    let cols_is = rw take_rest at c.in-Some-count_in-2.ensures.0 in
+    let same = same_counts c.args.line.now rows cols r k c.in-Some.place c.in-Some.ensures c.in-Some-count_in.ensures.2 c.in-Some-count_in-2.ensures.2 c.in-Some-count_in.ensures.0 cols_is size e in
+    let more = rw (c.from.ensures, c.from-2.ensures, same.0, same.1) at c.if-from-le-MOST_CELLS.false in
+    omega (arith, more, size.few)
