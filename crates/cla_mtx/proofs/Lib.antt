@@ -1,3 +1,5 @@
 pub mod PlainDecimals
 pub mod StepLaws
 pub mod SizeLaws
+pub mod EntryLaws
+pub mod RowLaws

@@ -1,5 +1,5 @@
 -- What a size line that is refused can't be.
-use Rattle.std.proofs.Common.{to_z, of_z, ◌⊎◌, inl, inr, ◌≡◌, ℕ, ℤ, pos, negsuc, ◌+◌, ◌*◌, ◌^◌, ◌<◌, ◌≤◌, ◌<ℤ◌, ◌==◌, List, ◌∷◌, ◌++◌, length, take, drop, get_or, not, Option, Some, None, ap, sym, ◌∙◌, arith, length-append}
+use Rattle.std.proofs.Common.{refl, false, to_z, of_z, ◌⊎◌, inl, inr, ◌≡◌, ℕ, ℤ, pos, negsuc, ◌+◌, ◌*◌, ◌^◌, ◌<◌, ◌≤◌, ◌==◌, List, ◌∷◌, ◌++◌, length, take, drop, get_or, not, Option, Some, None, ap, sym, ◌∙◌, arith, length-append}
 use Rattle.std.proofs.lemmas.Int.{ints, to_z-of_z}
 use Rattle.std.proofs.Math.Seq.{take-append_seam, drop-append-add, get_or-append_seam}
 use Rattle.std.proofs.Math.Nat.{mul_comm, mul-le-mul_left}
@@ -7,6 +7,7 @@ use Rattle.std.proofs.lemmas.Bool.{false_from_ne_true, eq-eqb}
 use Rattle.std.proofs.lemmas.List.Sums.{position_or_len_is}
 use Rattle.std.proofs.lemmas.Fmt.{signed_decimal_injective}
 use Rattle.std.specs.Fmt.{decimal}
+use Rattle.std.specs.Int.Signed.{le_z}
 use Rattle.std.specs.Int.{w64}
 use Rattle.std.specs.Int.RustNames.{FitsSigned}
 use Rattle.memchr.specs.Find.{IsFirstByte, is_byte}
@@ -55,11 +56,17 @@ same_counts line rows cols r k place found small_r small_k is_r is_k s e =
     let col : pos k ≡ pos cols = signed_decimal_injective (pos k) (pos cols) (omega arith) (omega (arith, few.1)) (sym is_k ∙ parts.1) in
     (cc, cc)
 
+below : (n : ℕ) → 1 ≤ n → le_z (pos 1) (pos n) ≡ false → ⊥
+below n some h = grind (arith, ints)
+
+above : (n : ℕ) → n ≤ most_cells → le_z (pos n) (pos most_cells) ≡ false → ⊥
+above n few h = grind (arith, ints)
+
 -- a number out of the range of counts is no count
-pub no_count : (v : ℤ) (n : ℕ) → FitsSigned w64 v → 1 ≤ n → n ≤ most_cells → decimal_of v ≡ decimal_of (pos n) → (to_z w64 (of_z w64 v) <ℤ pos 1) ⊎ (pos most_cells <ℤ to_z w64 (of_z w64 v)) → ⊥
+pub no_count : (v : ℤ) (n : ℕ) → FitsSigned w64 v → 1 ≤ n → n ≤ most_cells → decimal_of v ≡ decimal_of (pos n) → (le_z (pos 1) (to_z w64 (of_z w64 v)) ≡ false) ⊎ (le_z (to_z w64 (of_z w64 v)) (pos most_cells) ≡ false) → ⊥
 no_count v n fits some few e (inl low) =
     let is : to_z w64 (of_z w64 v) ≡ pos n = to_z-of_z w64 v fits ∙ count_is v n fits few e in
-    let lower = rw is at low in omega (arith, ints)
+    below n some (rw is at low)
 no_count v n fits some few e (inr high) =
     let is : to_z w64 (of_z w64 v) ≡ pos n = to_z-of_z w64 v fits ∙ count_is v n fits few e in
-    let higher = rw is at high in omega (arith, ints)
+    above n few (rw is at high)
