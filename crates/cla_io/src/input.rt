@@ -57,6 +57,7 @@ impl<'a, F: Files> InputOver<'a, F, Taken> {
         ensures cause { InCause (F.state self.old.files.now).read_faults (F.state self.new.files.now).read_faults result }
         ensures limit { self.new.taken.limit ≡ self.old.taken.limit }
         ensures line { TakesLineWhereTold self.old.taken self.new.taken (ahead_of self.old.taken (left (F.state self.old.files.now))) (ahead_of self.new.taken (left (F.state self.new.files.now))) result }
+        ensures in_limit { OnOk result (self.new.taken.at ≤ self.new.taken.limit) }
         ensures count { CountsLine self.old.taken self.new.taken result }
     {
         let lf = self.taken.lf_ahead();

@@ -104,6 +104,7 @@ impl Taken {
         ensures within { self.new.at ≤ length self.new.held }
         ensures line { TakesLine self.old self.new (drop self.old.at self.old.held) (drop self.new.at self.old.held) result }
         ensures count { CountsLine self.old self.new result }
+        ensures in_limit { OnOk result (self.new.at ≤ self.new.limit) }
         ensures only_too_long { OnlyTooLong result }
     {
         let ahead = self.bytes.len() - self.at;
@@ -121,6 +122,7 @@ impl Taken {
         ensures within { self.new.at ≤ length self.new.held }
         ensures line { TakesLine self.old self.new (drop self.old.at self.old.held) (drop self.new.at self.old.held) result }
         ensures count { CountsLine self.old self.new result }
+        ensures in_limit { OnOk result (self.new.at ≤ self.new.limit) }
         ensures only_too_long { OnlyTooLong result }
     {
         let next = self.at + width;

@@ -3,3 +3,4 @@ pub mod StepLaws
 pub mod SizeLaws
 pub mod EntryLaws
 pub mod RowLaws
+pub mod TableLaws

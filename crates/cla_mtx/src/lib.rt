@@ -5,7 +5,9 @@ mod columns;
 mod decimal;
 mod fault;
 mod line;
+mod reader;
 mod rows;
 mod size;
 
 pub use fault::MtxFault;
+pub use reader::read_mtx;

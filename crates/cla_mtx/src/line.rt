@@ -1,6 +1,6 @@
 //! The lines of the file that is read.
 
-ghost use Rattle.std.specs.Prelude.{◌≡◌};
+ghost use Rattle.std.specs.Prelude.{◌≡◌, ◌≤◌, OnOk};
 ghost use Rattle.cla_io.specs.State.{left};
 ghost use Rattle.cla_io.specs.InputFrame.{ReadsOn};
 ghost use Rattle.cla_io.specs.Lines.{ahead_of};
@@ -15,6 +15,7 @@ pub(crate) fn next<F: Files>(input: &mut Input<'_, F>) -> Result<bool, MtxFault>
     ensures frame { ReadsOn (F.state input.old.files.now) (F.state input.new.files.now) }
     ensures cause { HasReadCause (F.state input.old.files.now).read_faults (F.state input.new.files.now).read_faults result }
     ensures limit { input.new.taken.limit ≡ input.old.taken.limit }
+    ensures in_limit { OnOk result (input.new.taken.at ≤ input.new.taken.limit) }
     ensures step { StepWhereTold (Takes input.new.taken.line) Never input.old.taken input.new.taken (ahead_of input.old.taken (left (F.state input.old.files.now))) (ahead_of input.new.taken (left (F.state input.new.files.now))) result }
 {
     match input.next_line() {
@@ -54,6 +55,7 @@ pub(crate) fn expect_end<F: Files>(input: &mut Input<'_, F>) -> Result<(), MtxFa
     ensures frame { ReadsOn (F.state input.old.files.now) (F.state input.new.files.now) }
     ensures cause { HasReadCause (F.state input.old.files.now).read_faults (F.state input.new.files.now).read_faults result }
     ensures limit { input.new.taken.limit ≡ input.old.taken.limit }
+    ensures in_limit { OnOk result (input.new.taken.at ≤ input.new.taken.limit) }
     ensures step { StepWhereTold Ends NeverEnds input.old.taken input.new.taken (ahead_of input.old.taken (left (F.state input.old.files.now))) (ahead_of input.new.taken (left (F.state input.new.files.now))) result }
 {
     match next(input) {

@@ -1,11 +1,11 @@
 //! The head of an array file: its banner and its size line.
 
-ghost use Rattle.std.specs.Prelude.{◌≡◌, MatchOption};
+ghost use Rattle.std.specs.Prelude.{◌≡◌, IfOk, MatchOption};
 ghost use Rattle.cla_io.specs.State.{left};
 ghost use Rattle.cla_io.specs.InputFrame.{ReadsOn};
 ghost use Rattle.cla_io.specs.Lines.{ahead_of};
 ghost use Rattle.cla_mtx.specs.Steps.{StepWhereTold, HasReadCause};
-ghost use Rattle.cla_mtx.specs.Size.{IsSizeLine, IsNoSizeLine, IsNoCount, IsCount, TakesSize, NeverSize, TakesHead, NeverHead};
+ghost use Rattle.cla_mtx.specs.Size.{IsSize, IsSizeLine, IsNoSizeLine, IsNoCount, IsCount, TakesSize, NeverSize, TakesHead, NeverHead};
 
 use crate::decimal::decimal_value;
 use crate::fault::MtxFault;
@@ -22,6 +22,7 @@ pub(crate) fn read_head<F: Files>(input: &mut Input<'_, F>) -> Result<(u32, u32)
     ensures frame { ReadsOn (F.state input.old.files.now) (F.state input.new.files.now) }
     ensures cause { HasReadCause (F.state input.old.files.now).read_faults (F.state input.new.files.now).read_faults result }
     ensures limit { input.new.taken.limit ≡ input.old.taken.limit }
+    ensures size { IfOk result (λ size. IsSize size.0 size.1) }
     ensures step { StepWhereTold TakesHead NeverHead input.old.taken input.new.taken (ahead_of input.old.taken (left (F.state input.old.files.now))) (ahead_of input.new.taken (left (F.state input.new.files.now))) result }
 {
     match expect_line(input, b"%%MatrixMarket matrix array integer general") {
@@ -39,6 +40,7 @@ fn read_size<F: Files>(input: &mut Input<'_, F>) -> Result<(u32, u32), MtxFault>
     ensures frame { ReadsOn (F.state input.old.files.now) (F.state input.new.files.now) }
     ensures cause { HasReadCause (F.state input.old.files.now).read_faults (F.state input.new.files.now).read_faults result }
     ensures limit { input.new.taken.limit ≡ input.old.taken.limit }
+    ensures size { IfOk result (λ size. IsSize size.0 size.1) }
     ensures step { StepWhereTold TakesSize NeverSize input.old.taken input.new.taken (ahead_of input.old.taken (left (F.state input.old.files.now))) (ahead_of input.new.taken (left (F.state input.new.files.now))) result }
 {
     match next(input) {

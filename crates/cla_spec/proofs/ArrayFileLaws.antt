@@ -7,7 +7,7 @@ use Rattle.std.proofs.lemmas.Slice.Eq.{slice_eq-Decides}
 use Rattle.std.specs.Cmp.Lexicographic.{bytes_decides}
 use Rattle.std.specs.Int.RustNames.{unsigned_abs}
 use Rattle.std.specs.List.{range_with_len, list_all}
-use Rattle.std.proofs.lemmas.List.Elements.{All-get_or}
+use Rattle.std.proofs.lemmas.List.Elements.{All-get_or, All-from_get_or}
 use Rattle.std.proofs.lemmas.List.FromFn.{get_or-map-range_with_len, length-map-range_with_len, fill_by_all}
 use Rattle.std.proofs.lemmas.List.{get_or_past}
 use Rattle.std.proofs.lemmas.Nat.{mul-add-lt, div-mul-add, mod-mul-add, div-add-mod'}
@@ -117,3 +117,14 @@ column_by_column-from_columns rows cols values some count =
       let there : q < n = omega (arith, place_in_file cols rows k some swapped, mul_comm rows cols) in
       sym (get_or-map-range_with_len f 0 n q q (pos 0) there (omega arith)
         ∙ rw (mod-mul-add (k % rows) cols (k / rows) col, div-mul-add (k % rows) cols (k / rows) col, div-add-mod' k rows) refl)))
+
+-- the entries of a well-made matrix are in range, column by column too
+pub column_by_column-in_range : (bits : ℕ) (m : Matrix) → IsWellMade bits m → All (InRange bits) (column_by_column m)
+column_by_column-in_range bits m w =
+    let n = m.rows * m.cols in
+    let g = λ (p : ℕ). entry m (p % m.rows) (p / m.rows) in
+    All-from_get_or (InRange bits) (column_by_column m) (pos 0) (λ i lt.
+      let below : i < n = omega (arith, lt, length-map-range_with_len g 0 n) in
+      let swapped : i < m.cols * m.rows = omega (arith, below, mul_comm m.rows m.cols) in
+      let there : (i % m.rows) * m.cols + i / m.rows < length m.cells = omega (arith, place_in_file m.cols m.rows i w.shape.a_row swapped, mul_comm m.rows m.cols, w.shape.count) in
+      rw (get_or-map-range_with_len g 0 n i i (pos 0) below (omega arith)) (All-get_or (InRange bits) m.cells ((i % m.rows) * m.cols + i / m.rows) (pos 0) there w.in_range))
