@@ -1,3 +1,4 @@
 pub mod Growth
 pub mod TakenLines
 pub mod MemMap
+pub mod StepLaws

@@ -10,3 +10,4 @@ pub mod MemFiles
 pub mod StdSink
 pub mod Lines
 pub mod InputFrame
+pub mod Steps

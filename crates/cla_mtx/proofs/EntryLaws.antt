@@ -6,7 +6,7 @@ use Rattle.std.proofs.lemmas.Int.{to_z-of_z}
 use Rattle.std.specs.Int.{w64}
 use Rattle.std.specs.Int.RustNames.{FitsSigned, unsigned_abs}
 use Rattle.cla_spec.specs.Numbers.{InRange, decimal_of}
-use Rattle.cla_mtx.specs.Steps.{Lines}
+use Rattle.cla_io.specs.Steps.{Lines}
 use Rattle.cla_mtx.specs.Entries.{TakesEntry, NeverEntry, TakesEntries, NeverEntries}
 
 -- two integers of 64 bits with the same decimal text are the same

@@ -1,74 +1,17 @@
--- How steps of the reader follow one another.
-use Rattle.std.proofs.Common.{◌≡◌, ◌≢◌, ℕ, ◌+◌, ◌-◌, ◌<◌, ◌≤◌, List, [], ◌∷◌, length, Bool, true, false, Option, Some, None, Result, Ok, Err, refl, ap, sym, ◌∙◌, arith}
-use Rattle.std.proofs.lemmas.List.{nil_from_length}
-use Rattle.cla_spec.specs.Lines.{lines_of, first_line, after_line}
-use Rattle.cla_spec.proofs.LineLemmas.{lines_of-nil, lines_of-cons, after_line_shorter}
-use Rattle.cla_io.specs.declared.stop.InFault.{InFault}
-use Rattle.cla_io.specs.declared.stop.InFault.TheVariants as infault
-use Rattle.cla_io.specs.Lines.{Progress, TakesLine, TakesLineWhereTold, line_width}
+-- How steps of the reader of array files follow one another: the laws of all readers, at its faults.
+use Rattle.std.proofs.Common.{ℕ, List, Bool, Option, Ok, Err, ◌≡◌}
+use Rattle.cla_io.specs.Lines.{Progress, TakesLineWhereTold}
+use Rattle.cla_io.specs.Steps.{Lines, Takes, Never}
+use Rattle.cla_io.proofs.StepLaws as all
 use Rattle.cla_mtx.specs.declared.fault.MtxFault.{MtxFault}
 use Rattle.cla_mtx.specs.declared.fault.MtxFault.TheVariants.{Banner, Read, Memory}
-use Rattle.cla_mtx.specs.Steps.{Lines, Step, StepWhereTold, Takes, Never}
+use Rattle.cla_mtx.specs.Steps.{Refuses, StepWhereTold}
 
--- after a good step a refusal of the next one is one of both together
-pub then_refused : {T U V : Type 0} (G1 : Lines → Lines → T → Type 0) (B1 : Lines → Type 0) (G2 : Lines → Lines → U → Type 0) (B2 : Lines → Type 0) (G : Lines → Lines → V → Type 0) (B : Lines → Type 0)
-    (p q r : Progress) (o1 o2 o3 : Option (List ℕ)) (x : T) (fault : MtxFault)
-    → q.limit ≡ p.limit → StepWhereTold G1 B1 p q o1 o2 (Ok x) → StepWhereTold G2 B2 q r o2 o3 (Err fault)
-    → ((before after : Lines) → G1 before after x → B2 after → B before)
-    → StepWhereTold G B p r o1 o3 (Err fault)
-then_refused G1 B1 G2 B2 G B p q r None o2 o3 x fault limit first second so = rw first at second
-then_refused G1 B1 G2 B2 G B p q r (Some a) None o3 x fault limit first second so = absurd first
-then_refused G1 B1 G2 B2 G B p q r (Some a) (Some b) None x fault limit first second so = absurd second
-then_refused G1 B1 G2 B2 G B p q r (Some a) (Some b) (Some c) x (Banner n) limit first second so = (second.0, λ fits. so _ _ first.0 (second.1 (omega (arith, fits, first.1, limit))))
-then_refused G1 B1 G2 B2 G B p q r (Some a) (Some b) (Some c) x Read limit first second so = tt
-then_refused G1 B1 G2 B2 G B p q r (Some a) (Some b) (Some c) x Memory limit first second so = tt
+tells_on : (e : MtxFault) (P Q : Type 0) → (P → Q) → Refuses e P → Refuses e Q
+tells_on (Banner n) P Q so h = (h.0, so h.1)
+tells_on Read P Q so h = tt
+tells_on Memory P Q so h = tt
 
--- two good steps are one of both together
-pub then_good : {T U V : Type 0} (G1 : Lines → Lines → T → Type 0) (B1 : Lines → Type 0) (G2 : Lines → Lines → U → Type 0) (B2 : Lines → Type 0) (G : Lines → Lines → V → Type 0) (B : Lines → Type 0)
-    (p q r : Progress) (o1 o2 o3 : Option (List ℕ)) (x : T) (y : U) (z : V)
-    → StepWhereTold G1 B1 p q o1 o2 (Ok x) → StepWhereTold G2 B2 q r o2 o3 (Ok y)
-    → ((before middle after : Lines) → G1 before middle x → G2 middle after y → G before after z)
-    → StepWhereTold G B p r o1 o3 (Ok z)
-then_good G1 B1 G2 B2 G B p q r None o2 o3 x y z first second so = rw first at second
-then_good G1 B1 G2 B2 G B p q r (Some a) None o3 x y z first second so = absurd first
-then_good G1 B1 G2 B2 G B p q r (Some a) (Some b) None x y z first second so = absurd second
-then_good G1 B1 G2 B2 G B p q r (Some a) (Some b) (Some c) x y z first second so = (so _ _ _ first.0 second.0, second.1 ∙ first.1)
-
--- the same step with another refusal of it
-pub refused_as : {T U : Type 0} (G1 : Lines → Lines → T → Type 0) (B1 : Lines → Type 0) (G : Lines → Lines → U → Type 0) (B : Lines → Type 0)
-    (p q : Progress) (o1 o2 : Option (List ℕ)) (fault : MtxFault)
-    → StepWhereTold G1 B1 p q o1 o2 (Err fault) → ((before : Lines) → B1 before → B before) → StepWhereTold G B p q o1 o2 (Err fault)
-refused_as G1 B1 G B p q None o2 fault h so = h
-refused_as G1 B1 G B p q (Some a) None fault h so = absurd h
-refused_as G1 B1 G B p q (Some a) (Some b) (Banner n) h so = (h.0, λ fits. so _ (h.1 fits))
-refused_as G1 B1 G B p q (Some a) (Some b) Read h so = tt
-refused_as G1 B1 G B p q (Some a) (Some b) Memory h so = tt
-
--- a good step that shows the file to be none
-pub good_as_refused : {T U : Type 0} (G1 : Lines → Lines → T → Type 0) (B1 : Lines → Type 0) (G : Lines → Lines → U → Type 0) (B : Lines → Type 0)
-    (p q : Progress) (o1 o2 : Option (List ℕ)) (x : T)
-    → StepWhereTold G1 B1 p q o1 o2 (Ok x) → ((before after : Lines) → G1 before after x → B before) → StepWhereTold G B p q o1 o2 (Err (Banner 1))
-good_as_refused G1 B1 G B p q None o2 x h so = h
-good_as_refused G1 B1 G B p q (Some a) None x h so = absurd h
-good_as_refused G1 B1 G B p q (Some a) (Some b) x h so = (refl, λ fits. so _ _ h.0)
-
--- the same step with another good result
-pub good_as : {T U : Type 0} (G1 : Lines → Lines → T → Type 0) (B1 : Lines → Type 0) (G : Lines → Lines → U → Type 0) (B : Lines → Type 0)
-    (p q : Progress) (o1 o2 : Option (List ℕ)) (x : T) (y : U)
-    → StepWhereTold G1 B1 p q o1 o2 (Ok x) → ((before after : Lines) → G1 before after x → G before after y) → StepWhereTold G B p q o1 o2 (Ok y)
-good_as G1 B1 G B p q None o2 x y h so = h
-good_as G1 B1 G B p q (Some a) None x y h so = absurd h
-good_as G1 B1 G B p q (Some a) (Some b) x y h so = (so _ _ h.0, h.1)
-
--- a line that is taken, as a step
-pub next_line_good : (p q : Progress) (o1 o2 : Option (List ℕ)) (more : Bool) → TakesLineWhereTold p q o1 o2 (Ok more) → StepWhereTold (Takes q.line) Never p q o1 o2 (Ok more)
-next_line_good p q None o2 more h = h
-next_line_good p q (Some a) None more h = absurd h
-next_line_good p q (Some a) (Some b) true h =
-    (rw (h.1, h.2) (lines_of-cons a h.0), rw (h.2, h.3) (omega (arith, after_line_shorter a)))
-next_line_good p q (Some a) (Some b) false h = ((rw h.0 lines_of-nil, rw h.1 lines_of-nil), rw (h.0, h.1, h.2) refl)
-
-pub next_line_long : (p q : Progress) (o1 o2 : Option (List ℕ)) → q.limit ≡ p.limit → TakesLineWhereTold p q o1 o2 (Err infault.TooLong) → StepWhereTold (Takes q.line) Never p q o1 o2 (Err (Banner 1))
-next_line_long p q None o2 limit h = h
-next_line_long p q (Some a) None limit h = absurd h
-next_line_long p q (Some a) (Some b) limit h = (refl, λ fits. omega (arith, h, fits, limit))
+-- what follows from what a fault tells
+pub tells : all.TellsOn Refuses
+tells = record { on = tells_on }

@@ -16,7 +16,8 @@ use Rattle.cla_spec.proofs.ArrayFileLaws.{column_by_column-from_columns, column_
 use Rattle.cla_io.specs.Lines.{Progress}
 use Rattle.cla_mtx.specs.declared.fault.MtxFault.{MtxFault}
 use Rattle.cla_mtx.specs.declared.fault.MtxFault.TheVariants.{Banner, Read, Memory}
-use Rattle.cla_mtx.specs.Steps.{Lines, StepWhereTold}
+use Rattle.cla_mtx.specs.Steps.{StepWhereTold}
+use Rattle.cla_io.specs.Steps.{Lines}
 use Rattle.cla_mtx.specs.Size.{IsSize, NeverHead}
 use Rattle.cla_mtx.specs.Entries.{NeverEntries}
 use Rattle.cla_mtx.proofs.RowLaws.{place_within}

@@ -1,7 +1,7 @@
 -- The entries of an array file.
 use Rattle.std.specs.Prelude.{◌≡◌, ◌≢◌, ℕ, ℤ, List, ◌∷◌, ◌++◌, length, map, All}
 use Rattle.cla_spec.specs.Numbers.{InRange, decimal_of}
-use Rattle.cla_mtx.specs.Steps.{Lines}
+use Rattle.cla_io.specs.Steps.{Lines}
 
 -- a line is the decimal text of no number in range
 abbrev pub IsNoEntry : ℕ → List ℕ → Type 0

@@ -3,7 +3,7 @@ use Rattle.std.specs.Prelude.{◌≡◌, ◌≢◌, ℕ, pos, ◌*◌, ◌≤◌
 use Rattle.cla_spec.specs.Numbers.{decimal_of}
 use Rattle.cla_spec.specs.Matrix.{most_cells}
 use Rattle.cla_spec.specs.ArrayFile.{array_banner, size_line}
-use Rattle.cla_mtx.specs.Steps.{Lines}
+use Rattle.cla_io.specs.Steps.{Lines}
 
 -- the numbers of rows and columns of a matrix
 pub record IsSize (rows cols : ℕ) : Type 0 where

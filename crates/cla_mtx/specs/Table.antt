@@ -5,7 +5,7 @@ use Rattle.cla_spec.specs.Matrix.{Matrix, IsWellMade}
 use Rattle.cla_spec.specs.ArrayFile.{array_banner, size_line, array_lines, IsArrayFile}
 use Rattle.cla_mtx.specs.declared.fault.MtxFault.{MtxFault}
 use Rattle.cla_mtx.specs.declared.fault.MtxFault.TheVariants.{Banner, Read, Memory}
-use Rattle.cla_mtx.specs.Steps.{Lines}
+use Rattle.cla_io.specs.Steps.{Lines}
 
 -- all lines are those of an array file of this shape with these values, column by column
 abbrev pub TakesTable : ℕ → ℕ → List ℤ → Lines → Lines → Type 0

@@ -4,7 +4,8 @@ ghost use Rattle.std.specs.Prelude.{◌≡◌, ◌≤◌, OnOk};
 ghost use Rattle.cla_io.specs.State.{left};
 ghost use Rattle.cla_io.specs.InputFrame.{ReadsOn};
 ghost use Rattle.cla_io.specs.Lines.{ahead_of};
-ghost use Rattle.cla_mtx.specs.Steps.{StepWhereTold, HasReadCause, Takes, Never, BeginsWith, NeverBegins, Ends, NeverEnds};
+ghost use Rattle.cla_mtx.specs.Steps.{StepWhereTold, HasReadCause};
+ghost use Rattle.cla_io.specs.Steps.{Takes, Never, BeginsWith, NeverBegins, Ends, NeverEnds};
 
 use crate::fault::MtxFault;
 use cla_io::{Files, InFault, Input};

@@ -1,9 +1,11 @@
 use Rattle.std.proofs.Common.{Vec, Global, arith}
 use Rattle.cla_io.specs.State.{left}
 use Rattle.cla_io.specs.Lines.{ahead_of}
-use Rattle.cla_mtx.specs.Steps.{Lines}
+use Rattle.cla_io.specs.Steps.{Lines}
 use Rattle.cla_mtx.specs.Entries.{TakesEntry, NeverEntry, TakesEntries, NeverEntries}
-use Rattle.cla_mtx.proofs.StepLaws.{then_refused}
+use Rattle.cla_io.proofs.StepLaws.{then_refused}
+use Rattle.cla_mtx.specs.Steps.{Refuses}
+use Rattle.cla_mtx.proofs.StepLaws.{tells}
 use Rattle.cla_mtx.proofs.EntryLaws.{no_more_entries}
 use Rattle.cla_mtx.proofs.columns.read_columns.Goals as goal
 
@@ -16,7 +18,7 @@ returns-in-Err-read_entry-clause-step g c =
     let middle = c.loop-input.input in
     let new = c.read_entry.new.input in
     let entries = c.loop-input.values.items in
-    then_refused (TakesEntries value) (NeverEntries bits count) (TakesEntry value) (NeverEntry bits) (λ (before after : Lines) (v : Vec g.row.N.Denot Global). TakesEntries value before after v.items) (NeverEntries bits count)
+    then_refused Refuses tells (TakesEntries value) (NeverEntries bits count) (TakesEntry value) (NeverEntry bits) (λ (before after : Lines) (v : Vec g.row.N.Denot Global). TakesEntries value before after v.items) (NeverEntries bits count)
       old.taken middle.taken new.taken (ahead_of old.taken (left (g.F.Files.state old.files.now))) (ahead_of middle.taken (left (g.F.Files.state middle.files.now))) (ahead_of new.taken (left (g.F.Files.state new.files.now)))
       entries c.in-Err-read_entry.fault c.loop-input.invariant.limit c.loop-input.invariant.step c.in-Err-read_entry.ensures.step
       (λ before after taken bad. no_more_entries value bits count before after entries (omega (arith, c.loop-input-test.true, c.len.ensures)) taken bad)
