@@ -3,3 +3,4 @@ pub mod LineLemmas
 pub mod Decimals
 pub mod ArrayFileLaws
 pub mod SumScriptLaws
+pub mod Sums

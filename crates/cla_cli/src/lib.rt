@@ -1,0 +1,11 @@
+//! The command line: the words, the statuses, and the top call that does all that the program does.
+#![tactic(auto)]
+
+mod print;
+mod script;
+mod status;
+mod stopped;
+mod sum;
+mod words;
+
+pub use status::{BadKind, FileFault, Place, ScriptKind, Status, code};
