@@ -1,11 +1,14 @@
 //! The command line: the words, the statuses, and the top call that does all that the program does.
 #![tactic(auto)]
 
+mod needed;
 mod print;
 mod script;
 mod status;
 mod stopped;
 mod sum;
+mod top;
 mod words;
 
 pub use status::{BadKind, FileFault, Place, ScriptKind, Status, code};
+pub use top::run;

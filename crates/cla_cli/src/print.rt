@@ -25,9 +25,9 @@ pub(crate) fn put_number_line<N: Number>(n: N, line: &mut [u8; 41]) -> usize
 pub(crate) fn operator_line(
     alloc: Global,
     place: Place,
-    fault: OpFault,
+    fault: &OpFault,
 ) -> Result<Vec<u8>, Memory>
-    ensures { IfOk result (λ line. line.items ≡ operator_line place fault) }
+    ensures { IfOk result (λ line. line.items ≡ operator_line place fault.now) }
 {
     let mut line = Vec::from_slice(alloc, b"operator ")?;
     push_number(&mut line, place.line)?;
@@ -37,7 +37,7 @@ pub(crate) fn operator_line(
     push_number(&mut line, fault.row)?;
     line.extend_from_slice(b", ")?;
     push_number(&mut line, fault.col)?;
-    push_reason(&mut line, fault.what)?;
+    push_reason(&mut line, &fault.what)?;
     line.push(b'\n')?;
     Ok(line)
 }
@@ -50,13 +50,13 @@ fn push_number(line: &mut Vec<u8>, n: u32) -> Result<(), Memory>
     Ok(())
 }
 
-fn push_reason(line: &mut Vec<u8>, what: What) -> Result<(), Memory>
-    ensures { OnOk result (line.new.items ≡ line.old.items ++ reason_text what) }
+fn push_reason(line: &mut Vec<u8>, what: &What) -> Result<(), Memory>
+    ensures { OnOk result (line.new.items ≡ line.old.items ++ reason_text what.now) }
 {
     match what {
         What::Range { value } => {
             line.extend_from_slice(b") is ")?;
-            push_wide(line, value)
+            push_wide(line, *value)
         }
         What::Zero => {
             line.extend_from_slice(b") divides by zero")?;

@@ -10,7 +10,7 @@ use Rattle.cla_spec.specs.Numbers.{InRange, decimal_of}
 use Rattle.cla_spec.specs.Matrix.{Matrix, IsShaped, IsWellMade, most_cells}
 use Rattle.cla_spec.specs.Lines.{lines_of}
 use Rattle.cla_spec.specs.ArrayFile.{array_banner, size_line, array_lines, column_by_column, from_columns, IsArrayFile}
-use Rattle.cla_spec.proofs.LineLemmas.{lines_of-cons}
+use Rattle.cla_spec.proofs.LineLemmas.{lines_of-empty}
 use Rattle.cla_spec.proofs.Decimals.{numbers_of_size}
 use Rattle.cla_spec.proofs.ArrayFileLaws.{column_by_column-from_columns, column_by_column-in_range}
 use Rattle.cla_io.specs.Lines.{Progress}
@@ -73,10 +73,6 @@ no_end bits rows cols values before middle after s head long entries bad m w e =
 abbrev pub TakesLines : ℕ → ℕ → List ℤ → Lines → Lines → Unit {0} → Type 0
 TakesLines rows cols values before after u = (middle : Lines) × (before ≡ array_banner ∷ size_line rows cols ∷ middle) × (middle ≡ map decimal_of values ++ after)
 
-no_lines : (text : List ℕ) → lines_of text ≡ [] → text ≡ []
-no_lines [] e = refl
-no_lines (b ∷ bs) e = let some : 0 < length (b ∷ bs) = omega arith in let first = sym (lines_of-cons (b ∷ bs) some) ∙ e in absurd (cc)
-
 -- a matrix that is made of values in range has them
 made_in_range : (bits rows cols : ℕ) (values : List ℤ) → IsShaped rows cols values → All (InRange bits) values → All (InRange bits) (from_columns rows cols values).cells
 made_in_range bits rows cols values shape small =
@@ -100,7 +96,7 @@ pub table_read : (bits rows cols : ℕ) (values cells : List ℤ) (p q : Progres
 table_read bits rows cols values cells p q None o2 start shape small is within same h = h
 table_read bits rows cols values cells p q (Some a) None start shape small is within same h = absurd h
 table_read bits rows cols values cells p q (Some a) (Some b) start shape small is within same h =
-    let none : b ≡ [] = no_lines b h.0.1 in
+    let none : b ≡ [] = lines_of-empty b h.0.1 in
     let made : from_columns rows cols values ≡ record { rows = rows; cols = cols; cells = cells } = ap (λ (xs : List ℤ). record { rows = rows; cols = cols; cells = xs }) (sym is) in
     let whole : IsArrayFile bits p.limit a (from_columns rows cols values) = record {
       well_made = made_well bits rows cols values shape small;
@@ -108,14 +104,6 @@ table_read bits rows cols values cells p q (Some a) (Some b) start shape small i
       lines = h.0.0 ∙ ap (λ (vs : List ℤ). array_banner ∷ size_line rows cols ∷ map decimal_of vs) (sym (column_by_column-from_columns rows cols values shape.a_row shape.count));
     } in
     (subst (λ (m : Matrix). IsArrayFile bits p.limit a m) made whole, none)
-
--- a text that isn't taken as a table is no array file
-pub table_refused : (bits : ℕ) (p q : Progress) (o1 o2 : Option (List ℕ)) (fault : MtxFault) → p.at ≡ 0 → StepWhereTold {T = Unit {0}} (λ before after u. Unit {0}) (NeverTable bits) p q o1 o2 (Err fault) → ReadsArrayFile bits p.limit o1 o2 (Err fault)
-table_refused bits p q None o2 fault start h = h
-table_refused bits p q (Some a) None fault start h = absurd h
-table_refused bits p q (Some a) (Some b) (Banner n) start h = (h.0, λ m f. h.1 (omega (arith, start, f.short)) m f.well_made f.lines)
-table_refused bits p q (Some a) (Some b) Read start h = tt
-table_refused bits p q (Some a) (Some b) Memory start h = tt
 
 pub shaped_cells : {N : Type 0} (value : N → ℤ) (rows cols : ℕ) (entries cells : List N) → IsShaped rows cols entries → map value cells ≡ (from_columns rows cols (map value entries)).cells → IsShaped rows cols cells
 shaped_cells {N} value rows cols entries cells shape is = record {

@@ -43,3 +43,8 @@ lines_of-cons s h =
 pub after_line_shorter : (s : List ℕ) → length (after_line s) ≤ length s
 unfolding after_line
 after_line_shorter s = omega (arith, length-drop (position_or_len is_lf s + 1) s)
+
+-- a text that has no lines has no bytes
+pub lines_of-empty : (text : List ℕ) → lines_of text ≡ [] → text ≡ []
+lines_of-empty [] e = refl
+lines_of-empty (b ∷ bs) e = let some : 0 < length (b ∷ bs) = omega arith in let first = sym (lines_of-cons (b ∷ bs) some) ∙ e in absurd (cc)
