@@ -7,6 +7,8 @@ mod script;
 mod status;
 mod stopped;
 mod sum;
+#[cfg(test)]
+mod tests;
 mod top;
 mod words;
 

@@ -7,6 +7,8 @@ mod int;
 mod meter;
 mod name;
 mod number;
+#[cfg(test)]
+mod tests;
 mod wide;
 
 pub use dense::Dense;

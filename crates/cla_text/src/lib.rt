@@ -2,5 +2,7 @@
 #![tactic(auto)]
 
 mod integer;
+#[cfg(test)]
+mod tests;
 
 pub use integer::{BadInt, read_int};

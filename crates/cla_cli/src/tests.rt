@@ -1,0 +1,219 @@
+//! Whole runs over files and sinks in memory: worked examples, hostile files, and failing calls.
+
+ghost use Rattle.cla_num.specs.Bits.{IsSupported};
+
+use crate::status::code;
+use crate::top::run;
+use cla_io::{CallKind, MemFiles, MemSink};
+use cla_num::{Int, Meter, Name, Number};
+use std::alloc::Global;
+use std::collections::BTreeMap;
+use std::test::Fail;
+
+const SCRIPT: &str = "X = read(\"x.mtx\")\nprint(sum(X))\n";
+const SQUARE: &str = "%%MatrixMarket matrix array integer general\n2 2\n1\n3\n2\n4\n";
+const BANNER: &str = "%%MatrixMarket matrix array integer general\n";
+
+/// What a run came to: the exit status, the output and standard error.
+#[derive(Drop)]
+struct Came {
+    code: u8,
+    out: Vec<u8>,
+    err: Vec<u8>,
+}
+
+/// The files of a run, and its failing calls.
+#[derive(Drop)]
+struct World<'a> {
+    script: Option<&'a str>,
+    table: Option<&'a str>,
+    failing: Option<(CallKind, u64)>,
+    failing_write: Option<u64>,
+}
+
+impl<'a> World<'a> {
+    fn of(script: &'a str, table: &'a str) -> World<'a> {
+        World {
+            script: Some(script),
+            table: Some(table),
+            failing: None,
+            failing_write: None,
+        }
+    }
+}
+
+fn ran<N: Number>(alloc: Global, words: &[&str], world: &World) -> Result<Came, Fail>
+    requires { IsSupported N.BITS }
+{
+    let mut held = Vec::new(alloc);
+    for word in words {
+        held.push(String::from_str(alloc, word)?)?;
+    }
+    let mut files = BTreeMap::new(alloc);
+    if let Some(script) = world.script {
+        files.insert(Name::of(alloc, "s")?, script.as_bytes().to_vec(alloc)?)?;
+    }
+    if let Some(table) = world.table {
+        files.insert(Name::of(alloc, "x.mtx")?, table.as_bytes().to_vec(alloc)?)?;
+    }
+    let mut fail = Vec::new(alloc);
+    if let Some(call) = world.failing {
+        fail.push(call)?;
+    }
+    let mut fail_out = Vec::new(alloc);
+    if let Some(call) = world.failing_write {
+        fail_out.push(call)?;
+    }
+    let mut files = MemFiles::new(files, fail);
+    let mut out = MemSink::new(fail_out);
+    let mut err = MemSink::new(Vec::new(alloc));
+    let mut meter = Meter::new();
+    let status = run::<N, _, _, _>(alloc, &held, &mut files, &mut out, &mut err, &mut meter);
+    Ok(Came {
+        code: code(&status),
+        out: out.bytes().to_vec(alloc)?,
+        err: err.bytes().to_vec(alloc)?,
+    })
+}
+
+#[test]
+fn worked_examples(rt: HostRuntime) -> Result<(), Fail> {
+    let two = "%%MatrixMarket matrix array integer general\n2 1\n140737488355327\n1\n";
+    let three = "%%MatrixMarket matrix array integer general\n3 1\n140737488355327\n140737488355327\n-140737488355327\n";
+    for (table, status, out, err) in [
+        (SQUARE, 0, "10\n", ""),
+        (two, 9, "", "operator 2:7: entry (1, 1) is 140737488355328\n"),
+        (three, 0, "140737488355327\n", ""),
+    ] {
+        let came = ran::<Int<47>>(rt.alloc(), &["run", "s"], &World::of(SCRIPT, table))?;
+        assert_eq!(rt; came.code, status, "at {table}");
+        assert_eq!(rt; came.out.as_slice(), out.as_bytes(), "at {table}");
+        assert_eq!(rt; came.err.as_slice(), err.as_bytes(), "at {table}");
+    }
+    let small = "%%MatrixMarket matrix array integer general\n2 1\n127\n1\n";
+    let came = ran::<Int<7>>(rt.alloc(), &["run", "s"], &World::of(SCRIPT, small))?;
+    assert_eq!(rt; came.code, 9);
+    assert_eq!(rt; came.err.as_slice(), b"operator 2:7: entry (1, 1) is 128\n".as_slice());
+    Ok(())
+}
+
+#[test]
+fn words(rt: HostRuntime) -> Result<(), Fail> {
+    let world = World::of(SCRIPT, SQUARE);
+    let refused: [&[&str]; 7] = [
+        &[],
+        &["run"],
+        &["run", ""],
+        &["run", "-s"],
+        &["walk", "s"],
+        &["Run", "s"],
+        &["run", "s", "s"],
+    ];
+    for words in refused {
+        let came = ran::<Int<47>>(rt.alloc(), words, &world)?;
+        assert_eq!(rt; came.code, 2, "at {words:?}");
+        assert!(rt; came.out.is_empty() && came.err.is_empty());
+    }
+    Ok(())
+}
+
+#[test]
+fn hostile_scripts(rt: HostRuntime) -> Result<(), Fail> {
+    for (script, status) in [
+        ("X = read(\"x.mtx\")\r\nprint(sum(X))\r\n", 0),
+        ("X = read(\"x.mtx\")\nprint(sum(X))", 0),
+        ("", 6),
+        ("\n", 6),
+        ("X = read(\"x.mtx\")\n", 6),
+        ("X = read(\"x.mtx\")\nprint(sum(X))\n\n", 6),
+        ("X = read(\"x.mtx\")\nprint(sum(Y))\n", 6),
+        ("X = read(\"\")\nprint(sum(X))\n", 6),
+        ("X = read(\"a\"b\")\nprint(sum(X))\n", 6),
+        ("X = read(\"x\t\")\nprint(sum(X))\n", 6),
+        ("X  = read(\"x.mtx\")\nprint(sum(X))\n", 6),
+        ("X = read(\"x.mtx\")\r\r\nprint(sum(X))\n", 6),
+        ("X = read(\"y.mtx\")\nprint(sum(X))\n", 3),
+    ] {
+        let came = ran::<Int<47>>(rt.alloc(), &["run", "s"], &World::of(script, SQUARE))?;
+        assert_eq!(rt; came.code, status, "at {script}");
+        assert_eq!(rt; came.out.is_empty(), status != 0, "at {script}");
+        assert!(rt; came.err.is_empty(), "at {script}");
+    }
+    Ok(())
+}
+
+#[test]
+fn hostile_tables(rt: HostRuntime) -> Result<(), Fail> {
+    for (rest, status) in [
+        ("1 1\r\n-140737488355327\r\n", 0),
+        ("1 1\n0", 0),
+        ("", 7),
+        ("\n", 7),
+        ("1 1\n", 7),
+        ("1 1\n1\n2\n", 7),
+        ("1 1\n1\n\n", 7),
+        ("1 1\n01\n", 7),
+        ("1 1\n+1\n", 7),
+        ("1 1\n-0\n", 7),
+        ("1 1\n1 \n", 7),
+        ("1 1\n140737488355328\n", 7),
+        ("1 1\n-140737488355328\n", 7),
+        ("1  1\n1\n", 7),
+        ("01 1\n1\n", 7),
+        ("0 1\n", 7),
+        ("1 1 1\n1\n", 7),
+        ("8192 8193\n", 7),
+        ("2147483648 1\n", 7),
+        ("1\n1\n", 7),
+    ] {
+        let mut table = String::from_str(rt.alloc(), BANNER)?;
+        table.push_str(rest)?;
+        let came = ran::<Int<47>>(rt.alloc(), &["run", "s"], &World::of(SCRIPT, &table))?;
+        assert_eq!(rt; came.code, status, "at {rest}");
+        assert_eq!(rt; came.out.is_empty(), status != 0, "at {rest}");
+        assert!(rt; came.err.is_empty(), "at {rest}");
+    }
+    for table in ["", "\n", "%%MatrixMarket matrix array integer\n1 1\n1\n"] {
+        let came = ran::<Int<47>>(rt.alloc(), &["run", "s"], &World::of(SCRIPT, table))?;
+        assert_eq!(rt; came.code, 7, "at {table}");
+    }
+    Ok(())
+}
+
+#[test]
+fn missing_files_and_failing_calls(rt: HostRuntime) -> Result<(), Fail> {
+    let none = World {
+        script: None,
+        table: Some(SQUARE),
+        failing: None,
+        failing_write: None,
+    };
+    assert_eq!(rt; ran::<Int<47>>(rt.alloc(), &["run", "s"], &none)?.code, 3);
+    // A run opens both files, reads each until a read gives nothing twice, and writes once.
+    for (kind, n, status) in [
+        (CallKind::BeginRead, 1, 4),
+        (CallKind::BeginRead, 2, 4),
+        (CallKind::BeginRead, 3, 0),
+        (CallKind::Read, 1, 4),
+        (CallKind::Read, 2, 4),
+        (CallKind::Read, 3, 4),
+        (CallKind::Read, 4, 4),
+        (CallKind::Read, 5, 4),
+        (CallKind::Read, 6, 4),
+        (CallKind::Read, 7, 0),
+    ] {
+        let mut world = World::of(SCRIPT, SQUARE);
+        world.failing = Some((kind, n));
+        let came = ran::<Int<47>>(rt.alloc(), &["run", "s"], &world)?;
+        assert_eq!(rt; came.code, status, "at {kind:?} {n}");
+        assert_eq!(rt; came.out.is_empty(), status != 0, "at {kind:?} {n}");
+    }
+    for (n, status) in [(1, 5), (2, 0)] {
+        let mut world = World::of(SCRIPT, SQUARE);
+        world.failing_write = Some(n);
+        let came = ran::<Int<47>>(rt.alloc(), &["run", "s"], &world)?;
+        assert_eq!(rt; came.code, status, "at write {n}");
+        assert_eq!(rt; came.out.is_empty(), status != 0, "at write {n}");
+    }
+    Ok(())
+}
