@@ -96,7 +96,9 @@ impl<'a, F: Files> InputOver<'a, F, Taken> {
     }
 }
 
-// Reads on to the end of the file, or until a byte past the limit is held.
+// Reads on to the end of the file, or until a byte past the limit is held. (Not inlined: its buffer
+// would be on the stack of each line that is taken.)
+#[inline(never)]
 fn load<F: Files>(files: &mut F, taken: &mut Taken) -> Result<(), InFault>
     requires { IsSome (F.state files.old).reading }
     ensures frame { ReadsOn (F.state files.old) (F.state files.new) }

@@ -1,5 +1,5 @@
 -- What parsing a word of the form of an integer gives.
-use Rattle.std.proofs.Common.{◌≡◌, ℕ, ℤ, pos, negsuc, ◌^◌, ◌<◌, List, [], ◌∷◌, length, Bool, true, false, ◌==◌, Result, Ok, Err, refl, arith, inl, inr}
+use Rattle.std.proofs.Common.{◌≡◌, ℕ, ℤ, pos, negsuc, ◌^◌, ◌<◌, ◌-◌, List, [], ◌∷◌, length, Bool, true, false, ◌==◌, Result, Ok, Err, refl, arith, inl, inr}
 use Rattle.std.proofs.lemmas.Bool.{cases_Bool, and_parts, ltb-true, lt-ltb, eqb-true}
 use Rattle.std.proofs.lemmas.Bool.Decides.{nat_tests}
 use Rattle.std.specs.List.{list_all}
@@ -63,3 +63,10 @@ int_wide word h parsed = elim (cases_Bool (fits_128 (signed_digits_value 10 word
 pub int_form : (word : List ℕ) → is_int_word word ≡ false → int_of word ≡ Err Form
 unfolding int_of
 int_form word h = rw h refl
+
+pub digit_is : (c : ℕ) → is_ascii_digit c ≡ true → digit_value c ≡ c - 48
+digit_is c h = grind (arith, nat_tests)
+
+pub word_is : (word : List ℕ) → are_digits (without_leading_sign word) ≡ true → is_int_word word ≡ true
+unfolding is_int_word
+word_is word h = h
