@@ -1,22 +1,20 @@
 -- What a reader answers of a file that was opened.
-use Rattle.std.proofs.Common.{false, ◌≡◌, ℕ, ◌+◌, ◌≤◌, ◌^◌, List, [], ◌++◌, length, drop, Option, Some, None, Result, Ok, Err, refl, ap, sym, subst, ◌∙◌, arith, inl, inr}
+use Rattle.std.proofs.Common.{false, ◌≡◌, ℕ, ◌≤◌, List, [], length, Option, Some, None, Ok, Err, refl, ap, ◌∙◌, arith}
 use Rattle.std.specs.FinMap as fin
-use Rattle.cla_spec.specs.Files.{Told, bytes_at}
+use Rattle.cla_spec.specs.Files.{Told}
 use Rattle.cla_spec.specs.Matrix.{Matrix}
-use Rattle.cla_spec.specs.ArrayFile.{array_in, IsArrayFile}
-use Rattle.cla_spec.specs.SumScript.{table_read_by, IsSumScript, is_text, script_lines}
+use Rattle.cla_spec.specs.ArrayFile.{array_in}
+use Rattle.cla_spec.specs.SumScript.{table_read_by, IsSumScript}
 use Rattle.cla_spec.proofs.LineLemmas.{lines_of-empty}
 use Rattle.cla_spec.proofs.ArrayFileLaws.{array_in-sound, array_in-complete}
 use Rattle.cla_spec.proofs.SumScriptLaws.{table_read_by-sound, table_read_by-complete}
-use Rattle.cla_io.specs.State.{State, Reading, left, left_where_told}
+use Rattle.cla_io.specs.State.{Reading, left_where_told}
 use Rattle.cla_io.specs.Lines.{Progress, ahead_of}
 use Rattle.cla_io.specs.Steps.{StepWhereTold}
 use Rattle.cla_mtx.specs.declared.fault.MtxFault.{MtxFault}
 use Rattle.cla_mtx.specs.declared.fault.MtxFault.TheVariants.{Banner}
 use Rattle.cla_mtx.specs.Table.{ReadsArrayFile}
-use Rattle.cla_cli.specs.declared.script.LineFault.{LineFault}
 use Rattle.cla_cli.specs.declared.script.LineFault.TheVariants.{Form}
-use Rattle.cla_cli.specs.declared.stopped.Stopped.{Stopped}
 use Rattle.cla_cli.specs.declared.stopped.Stopped.TheVariants.{Refused}
 use Rattle.cla_cli.specs.Script.{Refuses, TakesScript, NeverScript}
 use Rattle.cla_cli.specs.Needed.{script_limit, table_limit, OpensWhereTold, ReadsScript, ReadsTable}

@@ -1,5 +1,5 @@
 -- The files that a command needs.
-use Rattle.std.specs.Prelude.{◌≡◌, ℕ, ◌+◌, ◌≤◌, ◌^◌, List, [], Option, Some, None, Result, Ok, Err}
+use Rattle.std.specs.Prelude.{◌≡◌, ℕ, ◌≤◌, ◌^◌, List, Option, Some, None, Result, Ok, Err}
 use Rattle.std.specs.FinMap as fin
 use Rattle.cla_spec.specs.Files.{Told}
 use Rattle.cla_spec.specs.Matrix.{Matrix}

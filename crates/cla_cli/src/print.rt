@@ -22,11 +22,7 @@ pub(crate) fn put_number_line<N: Number>(n: N, line: &mut [u8; 41]) -> usize
 }
 
 /// The line that tells an operator's fault.
-pub(crate) fn operator_line(
-    alloc: Global,
-    place: Place,
-    fault: &OpFault,
-) -> Result<Vec<u8>, Memory>
+pub(crate) fn operator_line(alloc: Global, place: Place, fault: &OpFault) -> Result<Vec<u8>, Memory>
     ensures { IfOk result (λ line. line.items ≡ operator_line place fault.now) }
 {
     let mut line = Vec::from_slice(alloc, b"operator ")?;

@@ -11,7 +11,9 @@ use std::collections::BTreeMap;
 use std::test::Fail;
 
 const SCRIPT: &str = "X = read(\"x.mtx\")\nprint(sum(X))\n";
+
 const SQUARE: &str = "%%MatrixMarket matrix array integer general\n2 2\n1\n3\n2\n4\n";
+
 const BANNER: &str = "%%MatrixMarket matrix array integer general\n";
 
 /// What a run came to: the exit status, the output and standard error.
@@ -79,10 +81,16 @@ fn ran<N: Number>(alloc: Global, words: &[&str], world: &World) -> Result<Came, 
 #[test]
 fn worked_examples(rt: HostRuntime) -> Result<(), Fail> {
     let two = "%%MatrixMarket matrix array integer general\n2 1\n140737488355327\n1\n";
-    let three = "%%MatrixMarket matrix array integer general\n3 1\n140737488355327\n140737488355327\n-140737488355327\n";
+    let three =
+        "%%MatrixMarket matrix array integer general\n3 1\n140737488355327\n140737488355327\n-140737488355327\n";
     for (table, status, out, err) in [
         (SQUARE, 0, "10\n", ""),
-        (two, 9, "", "operator 2:7: entry (1, 1) is 140737488355328\n"),
+        (
+            two,
+            9,
+            "",
+            "operator 2:7: entry (1, 1) is 140737488355328\n",
+        ),
         (three, 0, "140737488355327\n", ""),
     ] {
         let came = ran::<Int<47>>(rt.alloc(), &["run", "s"], &World::of(SCRIPT, table))?;
@@ -93,7 +101,10 @@ fn worked_examples(rt: HostRuntime) -> Result<(), Fail> {
     let small = "%%MatrixMarket matrix array integer general\n2 1\n127\n1\n";
     let came = ran::<Int<7>>(rt.alloc(), &["run", "s"], &World::of(SCRIPT, small))?;
     assert_eq!(rt; came.code, 9);
-    assert_eq!(rt; came.err.as_slice(), b"operator 2:7: entry (1, 1) is 128\n".as_slice());
+    assert_eq!(rt;
+        came.err.as_slice(),
+        b"operator 2:7: entry (1, 1) is 128\n".as_slice()
+    );
     Ok(())
 }
 

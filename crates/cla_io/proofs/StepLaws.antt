@@ -1,9 +1,8 @@
 -- How steps of a reader follow one another.
-use Rattle.std.proofs.Common.{◌≡◌, ◌≢◌, ℕ, ◌+◌, ◌-◌, ◌<◌, ◌≤◌, List, [], ◌∷◌, length, Bool, true, false, Option, Some, None, Result, Ok, Err, refl, ap, sym, ◌∙◌, arith}
-use Rattle.cla_spec.specs.Lines.{lines_of, first_line, after_line}
+use Rattle.std.proofs.Common.{◌≡◌, ℕ, List, Bool, true, false, Option, Some, None, Ok, Err, refl, ◌∙◌, arith}
 use Rattle.cla_spec.proofs.LineLemmas.{lines_of-nil, lines_of-cons, after_line_shorter}
-use Rattle.cla_io.specs.Lines.{Progress, TakesLineWhereTold, line_width}
-use Rattle.cla_io.specs.Steps.{Lines, Step, StepWhereTold, Takes, Never}
+use Rattle.cla_io.specs.Lines.{Progress, TakesLineWhereTold}
+use Rattle.cla_io.specs.Steps.{Lines, StepWhereTold, Takes, Never}
 
 -- a fault that tells a fact of the file tells what follows from it
 pub record TellsOn {E : Type 0} (Refuses : E → Type 0 → Type 0) : Type 1 where

@@ -1,5 +1,5 @@
 -- A line that is taken of the bytes that are held is the next line of the file.
-use Rattle.std.proofs.Common.{◌≡◌, ℕ, not, subst, inl, inr, ◌+◌, ◌-◌, ◌<◌, ◌≤◌, List, [], ◌∷◌, ◌++◌, length, take, drop, Option, Some, None, IsNone, Bool, true, false, Result, Ok, Err, refl, ap, sym, ◌∙◌, arith, length-drop, length-take, length-append}
+use Rattle.std.proofs.Common.{◌≡◌, ℕ, not, subst, inl, inr, ◌+◌, ◌<◌, ◌≤◌, List, [], ◌++◌, length, take, drop, Option, Some, None, Bool, true, false, Result, Ok, Err, refl, ap, sym, ◌∙◌, arith, length-drop, length-append}
 use Rattle.std.proofs.lemmas.Bool.{false_from_ne_true, cases_lt, ne_eqb, eq-eqb}
 use Rattle.std.proofs.lemmas.List.{append-nil, nil_from_length, drop-append-le, take-append-le}
 use Rattle.std.proofs.lemmas.List.Folds.{prefix_len-append}
@@ -105,11 +105,11 @@ held_whole : (old mid new : Progress) (xs rest ys : List ℕ) (lf : Option ℕ) 
     → TakesLine mid new xs rest result → TakesLine old new (xs ++ ys) (rest ++ ys) result
 held_whole old mid new xs rest ys (Some k) result same_at same_limit place all t = found_whole old mid new xs rest ys k result same_at place.0 place.1 t
 held_whole old mid new xs rest ys None result same_at same_limit place all t = elim (cases_lt mid.limit (mid.at + length xs)) [
-    | inl past ↦ past_whole old mid new xs rest (rest ++ ys) ys result same_at same_limit place past t
-    | inr short ↦
+  | inl past ↦ past_whole old mid new xs rest (rest ++ ys) ys result same_at same_limit place past t
+  | inr short ↦
       let none = all refl short in
       subst2 (λ (b a : List ℕ). TakesLine old new b a result) (no_more xs ys none) (no_more rest ys none) (last_whole old mid new xs rest result same_at t)
-  ]
+]
 
 -- the line that is taken of the bytes that are held is the next line of the file
 pub takes_whole : (old mid new : Progress) (left left' : Option (List ℕ)) (lf : Option ℕ) (result : Result Bool InFault)
@@ -126,8 +126,8 @@ takes_whole old mid new (Some l) (Some l') lf result same_at same_limit content 
     let still : new.at ≤ length mid.held = rw held at new_within in
     let after : drop new.at mid.held ++ l' ≡ drop new.at (new.held ++ l') = sym (drop-append-le new.at mid.held l' still) ∙ rw held refl in
     subst2 (λ (b a : List ℕ). TakesLine old new b a result) before after
-      (held_whole old mid new (drop mid.at mid.held) (drop new.at mid.held) l' lf result same_at same_limit place
-        (λ none short. all none (omega (arith, short, length-drop mid.at mid.held))) t)
+    (held_whole old mid new (drop mid.at mid.held) (drop new.at mid.held) l' lf result same_at same_limit place
+    (λ none short. all none (omega (arith, short, length-drop mid.at mid.held))) t)
 
 pub same_content : (p : Progress) (left : Option (List ℕ)) → SameContent p p left left
 same_content p None = refl

@@ -1,5 +1,5 @@
 -- What reading a file by an input leaves of its files.
-use Rattle.std.specs.Prelude.{◌≡◌, ◌≤◌, ℕ, Option, Some, None, IsSome}
+use Rattle.std.specs.Prelude.{◌≡◌, ◌≤◌, Option, Some, None, IsSome}
 use Rattle.cla_io.specs.State.{State, Reading}
 
 -- a file is being read, and none of it was taken

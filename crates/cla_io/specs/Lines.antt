@@ -5,7 +5,7 @@ use Rattle.cla_spec.specs.Lines.{is_lf, without_cr, first_line, after_line}
 use Rattle.cla_io.specs.declared.stop.InFault.{InFault}
 use Rattle.cla_io.specs.declared.stop.InFault.TheVariants.{Read, TooLong, Memory}
 use Rattle.cla_io.specs.Counts.{Rose}
-use Rattle.cla_io.specs.State.{State, left}
+use Rattle.cla_io.specs.State.{left}
 
 -- what an input holds: the bytes that were read, how many of them were taken, the line that was taken last, how
 -- many lines were taken, and whether the end was met

@@ -1,7 +1,7 @@
 -- What the calls that read do to files.
 use Rattle.std.specs.Prelude.{◌≡◌, ℕ, ◌+◌, ◌≤◌, min, List, [], take, drop, length, Option, Some, None, IsSome, Bool, true, false, Result, Ok, Err}
 use Rattle.std.specs.FinMap as fin
-use Rattle.cla_spec.specs.Files.{Told, bytes_at}
+use Rattle.cla_spec.specs.Files.{Told}
 use Rattle.cla_io.specs.State.{State, Reading, left}
 use Rattle.cla_io.specs.Counts.{Rose, counter_end}
 use Rattle.cla_io.specs.declared.stop.Stop.{Stop}

@@ -120,11 +120,7 @@ fn load<F: Files>(files: &mut F, taken: &mut Taken) -> Result<(), InFault>
 }
 
 // Holds some more bytes. `false` says that the file ends.
-fn load_some<F: Files>(
-    files: &mut F,
-    taken: &mut Taken,
-    buffer: &mut [u8],
-) -> Result<bool, InFault>
+fn load_some<F: Files>(files: &mut F, taken: &mut Taken, buffer: &mut [u8]) -> Result<bool, InFault>
     requires open { IsSome (F.state files.old).reading }
     requires room { 0 < length buffer.old }
     ensures frame { ReadsOn (F.state files.old) (F.state files.new) }

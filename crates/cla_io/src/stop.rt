@@ -14,7 +14,7 @@ pub enum Stop {
 
 /// An input gives no more: its file can't be read, a byte past the limit is needed and is there, or
 /// memory is wanting.
-#[derive(Debug, Drop, Error)]
+#[derive(Clone, Copy, Debug, PartialEq, Eq, Error)]
 pub enum InFault {
     #[error("the file can't be read")]
     Read,

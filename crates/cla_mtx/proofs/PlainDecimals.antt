@@ -1,6 +1,6 @@
 -- A word that spells an integer plainly is its decimal text, and a decimal text is such a word.
-use Rattle.std.proofs.Common.{◌≡◌, ℕ, ℤ, pos, negsuc, zero, suc, neg_ℤ, ◌≤◌, ◌^◌, ◌<◌, ◌==◌, List, [], ◌∷◌, length, get_or, Bool, true, false, not, Result, Ok, Err, to_z, of_z, refl, ap, sym, ◌∙◌, arith, inl, inr}
-use Rattle.std.proofs.lemmas.Bool.{cases_Bool, eqb-true, eqb-false, ne_eqb, eq-eqb, lt-ltb}
+use Rattle.std.proofs.Common.{◌≡◌, ℕ, ℤ, pos, negsuc, zero, suc, neg_ℤ, ◌≤◌, ◌^◌, ◌<◌, ◌==◌, List, [], ◌∷◌, length, get_or, true, Ok, to_z, of_z, refl, ap, sym, ◌∙◌, arith, inl, inr}
+use Rattle.std.proofs.lemmas.Bool.{cases_Bool, eqb-true, ne_eqb, eq-eqb, lt-ltb}
 use Rattle.std.proofs.lemmas.Bool.Decides.{nat_tests}
 use Rattle.std.proofs.lemmas.Int.{fits_signed_from_abs, to_z-of_z}
 use Rattle.std.specs.Int.{w64, w128}
@@ -8,11 +8,11 @@ use Rattle.std.specs.Int.RustNames.{unsigned_abs, FitsSigned}
 use Rattle.std.specs.List.{list_all}
 use Rattle.std.specs.Char.{is_ascii_digit}
 use Rattle.std.specs.Fmt.{decimal}
-use Rattle.std.specs.Str.Parse.{AllDigits, IsNumeral, digits_value, signed_digits_value, without_leading_sign}
+use Rattle.std.specs.Str.Parse.{AllDigits, IsNumeral, digits_value, signed_digits_value}
 use Rattle.std.proofs.lemmas.Fmt.{decimal-digits_value, decimal_is_IsNumeral, first_decimal, decimal_digit}
 use Rattle.std.proofs.lemmas.Str.Parse.{numerals_by_value, tells_digits, digit_at, digit_from_value}
 use Rattle.cla_spec.specs.Numbers.{decimal_of}
-use Rattle.cla_spec.proofs.Decimals.{value_of_digits, value-decimal}
+use Rattle.cla_spec.proofs.Decimals.{value-decimal}
 use Rattle.cla_text.specs.Integers.{int_of, is_int_word, are_digits, fits_128}
 use Rattle.cla_text.proofs.IntWords.{numeral, int_ok, fits_from}
 use Rattle.cla_mtx.specs.Decimals.{is_plain}
@@ -25,12 +25,12 @@ digits_back ds h first small = decimal-digits_value (numerals_by_value _ tells_d
 spelled : (word : List ℕ) (v : ℤ) → int_of word ≡ Ok v → (is_int_word word ≡ true) × (v ≡ signed_digits_value 10 word) × FitsSigned w128 v
 unfolding int_of
 spelled word v h = elim (cases_Bool (is_int_word word)) [
-    | inl is ↦ elim (cases_Bool (fits_128 (signed_digits_value 10 word))) [
-      | inl fits ↦ let e : Ok (signed_digits_value 10 word) ≡ Ok v = rw (is, fits) at h in let value : v ≡ signed_digits_value 10 word = cc in (is, value, rw value (fits_from (signed_digits_value 10 word) fits))
-      | inr wide ↦ let e = rw (is, wide) at h in absurd (cc)
-    ]
-    | inr isnt ↦ let e = rw isnt at h in absurd (cc)
+  | inl is ↦ elim (cases_Bool (fits_128 (signed_digits_value 10 word))) [
+    | inl fits ↦ let e : Ok (signed_digits_value 10 word) ≡ Ok v = rw (is, fits) at h in let value : v ≡ signed_digits_value 10 word = cc in (is, value, rw value (fits_from (signed_digits_value 10 word) fits))
+    | inr wide ↦ let e = rw (is, wide) at h in absurd (cc)
   ]
+  | inr isnt ↦ let e = rw isnt at h in absurd (cc)
+]
 
 minus_back : (bs : List ℕ) (n : ℕ) → decimal n ≡ bs → (get_or bs 0 0 ≡ 48 → ⊥) → 45 ∷ bs ≡ decimal_of (neg_ℤ (pos n))
 minus_back bs zero h first = absurd (first (rw (← h, decimal_digit 0 (omega arith)) refl))
@@ -48,21 +48,21 @@ plain_back (b ∷ bs) v plain h small =
     let s = spelled (b ∷ bs) v h in
     elim (cases_Bool (b == 45)) [
       | inl minus ↦
-        let second : get_or bs 0 0 ≡ 48 → ⊥ = λ e. (let bad = rw (minus, eq-eqb (get_or bs 0 0) 48 e) at plain in cc) in
-        let digits = (numeral bs (rw minus at s.0)).1 in
-        let value = rw minus at s.1 in
-        let few : digits_value 10 bs < 2 ^ 64 = rw (value, size_of_minus (digits_value 10 bs)) at small in
-        let back : decimal (digits_value 10 bs) ≡ bs = digits_back bs digits (λ e. absurd (second e)) few in
-        rw (eqb-true b 45 minus, value) (minus_back bs (digits_value 10 bs) back second)
+          let second : get_or bs 0 0 ≡ 48 → ⊥ = λ e. (let bad = rw (minus, eq-eqb (get_or bs 0 0) 48 e) at plain in cc) in
+          let digits = (numeral bs (rw minus at s.0)).1 in
+          let value = rw minus at s.1 in
+          let few : digits_value 10 bs < 2 ^ 64 = rw (value, size_of_minus (digits_value 10 bs)) at small in
+          let back : decimal (digits_value 10 bs) ≡ bs = digits_back bs digits (λ e. absurd (second e)) few in
+          rw (eqb-true b 45 minus, value) (minus_back bs (digits_value 10 bs) back second)
       | inr other ↦ elim (cases_Bool (b == 43)) [
         | inl plus ↦ let bad = rw (other, plus) at plain in absurd (cc)
         | inr none ↦
-          let digits = (numeral (b ∷ bs) (rw (other, none) at s.0)).1 in
-          let value = rw (other, none) at s.1 in
-          let few : digits_value 10 (b ∷ bs) < 2 ^ 64 = rw value at small in
-          let first : b ≡ 48 → length (b ∷ bs) ≡ 1 = λ e. eqb-true _ _ (rw (other, none, eq-eqb b 48 e) at plain) in
-          rw value (sym (digits_back (b ∷ bs) digits first few))
-        ]
+            let digits = (numeral (b ∷ bs) (rw (other, none) at s.0)).1 in
+            let value = rw (other, none) at s.1 in
+            let few : digits_value 10 (b ∷ bs) < 2 ^ 64 = rw value at small in
+            let first : b ≡ 48 → length (b ∷ bs) ≡ 1 = λ e. eqb-true _ _ (rw (other, none, eq-eqb b 48 e) at plain) in
+            rw value (sym (digits_back (b ∷ bs) digits first few))
+      ]
     ]
 
 zero_is : decimal 0 ≡ 48 ∷ []

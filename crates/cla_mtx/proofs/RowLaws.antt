@@ -1,5 +1,5 @@
 -- How the places of a matrix's cells follow one another, row by row, among its columns.
-use Rattle.std.proofs.Common.{◌⊎◌, inl, inr, length-append, ◌≡◌, ℕ, pos, ℤ, ◌+◌, ◌-◌, ◌*◌, ◌/◌, ◌%◌, ◌<◌, ◌≤◌, suc, List, [], ◌∷◌, ◌++◌, length, map, get_or, refl, ap, sym, ◌∙◌, arith}
+use Rattle.std.proofs.Common.{◌⊎◌, inl, inr, length-append, ◌≡◌, ℕ, pos, ℤ, ◌+◌, ◌-◌, ◌*◌, ◌/◌, ◌%◌, ◌<◌, ◌≤◌, List, [], ◌∷◌, ◌++◌, length, map, get_or, refl, ap, sym, ◌∙◌, arith}
 use Rattle.std.proofs.lemmas.Nat.{div-mul-add, mod-mul-add, div-add-mod'}
 use Rattle.std.proofs.Math.Nat.{div-lt_iff_lt-mul, mul_comm, mul-le-mul_left}
 use Rattle.std.specs.List.{range_with_len}
@@ -35,10 +35,10 @@ next_row rows cols p some lt past =
     elim (cases_lt (p % cols + 1) cols) [
       | inl inside ↦ let next : p % cols + 2 ≤ cols = omega arith in absurd (omega (arith, mul-le-mul_left rows next, past, row))
       | inr last ↦
-        let is : p % cols + 1 ≡ cols = omega (arith, last) in
-        let split : p + 1 ≡ (p / cols + 1) * cols + 0 = omega (arith, div-add-mod' p cols, is) in
-        let whole : rows * (p % cols + 1) ≡ rows * cols = ap (λ (k : ℕ). rows * k) is in
-        ap (λ (q : ℕ). (q % cols) * rows + q / cols) split ∙ place_at rows cols (p / cols + 1) 0 (omega arith) ∙ omega (arith, whole)
+          let is : p % cols + 1 ≡ cols = omega (arith, last) in
+          let split : p + 1 ≡ (p / cols + 1) * cols + 0 = omega (arith, div-add-mod' p cols, is) in
+          let whole : rows * (p % cols + 1) ≡ rows * cols = ap (λ (k : ℕ). rows * k) is in
+          ap (λ (q : ℕ). (q % cols) * rows + q / cols) split ∙ place_at rows cols (p / cols + 1) 0 (omega arith) ∙ omega (arith, whole)
     ]
 
 -- one row, or one column, stands the same both ways
@@ -56,7 +56,7 @@ pub stands_already : {N : Type 0} (value : N → ℤ) (rows cols : ℕ) (columns
     → map value columns ≡ map (λ (p : ℕ). get_or (map value columns) ((p % cols) * rows + p / cols) (pos 0)) (range_with_len 0 (rows * cols))
 stands_already value rows cols columns one count =
     fill_by_all (λ (p : ℕ). get_or (map value columns) ((p % cols) * rows + p / cols) (pos 0)) (map value columns) (rows * cols) (pos 0) (length-map columns value ∙ count)
-      (λ k lt. ap (λ (q : ℕ). get_or (map value columns) q (pos 0)) (sym (same_place rows cols k one lt)))
+    (λ k lt. ap (λ (q : ℕ). get_or (map value columns) q (pos 0)) (sym (same_place rows cols k one lt)))
 
 -- one more cell
 pub one_more_cell : {N : Type 0} (value : N → ℤ) (columns cells new : List N) (x : N) (place : ℕ) (at : ℕ → ℕ) → new ≡ cells ++ x ∷ [] → x ≡ get_or columns place x → place < length columns → place ≡ at (length cells)
@@ -67,8 +67,8 @@ one_more_cell {N} value columns cells new x place at is read within here so_far 
     let cell : value x ≡ f (length cells) = ap value read ∙ sym (get_or-map value columns place x (pos 0) within) ∙ ap (λ (q : ℕ). get_or (map value columns) q (pos 0)) here in
     let long : length new ≡ length cells + 1 = ap (λ (xs : List N). length xs) is ∙ length-append cells (x ∷ []) ∙ omega arith in
     ap (λ (xs : List N). map value xs) is ∙ map-append value cells (x ∷ []) ∙ ap (λ (vs : List ℤ). vs ++ value x ∷ []) so_far
-      ∙ ap (λ (v : ℤ). map f (range_with_len 0 (length cells)) ++ v ∷ []) cell
-      ∙ sym (map-range_with_len_more f 0 (length cells) (length cells) (omega arith)) ∙ ap (λ (n : ℕ). map f (range_with_len 0 n)) (sym long)
+    ∙ ap (λ (v : ℤ). map f (range_with_len 0 (length cells)) ++ v ∷ []) cell
+    ∙ sym (map-range_with_len_more f 0 (length cells) (length cells) (omega arith)) ∙ ap (λ (n : ℕ). map f (range_with_len 0 n)) (sym long)
 
 -- a place that is kept, and where it goes
 pub is_within : (rows cols n p place : ℕ) → 1 ≤ cols → n ≡ rows * cols → p < n → place ≡ (p % cols) * rows + p / cols → place < n

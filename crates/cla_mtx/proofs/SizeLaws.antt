@@ -1,5 +1,5 @@
 -- What a size line that is refused can't be.
-use Rattle.std.proofs.Common.{refl, false, to_z, of_z, ◌⊎◌, inl, inr, ◌≡◌, ℕ, ℤ, pos, negsuc, ◌+◌, ◌*◌, ◌^◌, ◌<◌, ◌≤◌, ◌==◌, List, ◌∷◌, ◌++◌, length, take, drop, get_or, not, Option, Some, None, ap, sym, ◌∙◌, arith, length-append}
+use Rattle.std.proofs.Common.{refl, false, to_z, of_z, ◌⊎◌, inl, inr, ◌≡◌, ℕ, ℤ, pos, negsuc, ◌+◌, ◌≤◌, ◌==◌, List, ◌∷◌, length, take, drop, Some, None, ap, sym, ◌∙◌, arith, length-append}
 use Rattle.std.proofs.lemmas.Int.{ints, to_z-of_z}
 use Rattle.std.proofs.Math.Seq.{take-append_seam, drop-append-add, get_or-append_seam}
 use Rattle.std.proofs.Math.Nat.{mul_comm, mul-le-mul_left}
@@ -15,7 +15,7 @@ use Rattle.cla_spec.specs.Numbers.{decimal_of}
 use Rattle.cla_spec.specs.Matrix.{most_cells}
 use Rattle.cla_spec.specs.ArrayFile.{size_line}
 use Rattle.cla_spec.proofs.Decimals.{blank_in_size}
-use Rattle.cla_mtx.specs.Size.{IsSize, IsNoCount, IsNoSizeLine}
+use Rattle.cla_mtx.specs.Size.{IsSize, IsNoCount}
 
 -- two decimals of the same text are the same, where the second is small
 pub count_is : (v : ℤ) (n : ℕ) → FitsSigned w64 v → n ≤ most_cells → decimal_of v ≡ decimal_of (pos n) → v ≡ pos n

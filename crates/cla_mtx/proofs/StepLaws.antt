@@ -1,11 +1,8 @@
 -- How steps of the reader of array files follow one another: the laws of all readers, at its faults.
-use Rattle.std.proofs.Common.{ℕ, List, Bool, Option, Ok, Err, ◌≡◌}
-use Rattle.cla_io.specs.Lines.{Progress, TakesLineWhereTold}
-use Rattle.cla_io.specs.Steps.{Lines, Takes, Never}
 use Rattle.cla_io.proofs.StepLaws as all
 use Rattle.cla_mtx.specs.declared.fault.MtxFault.{MtxFault}
 use Rattle.cla_mtx.specs.declared.fault.MtxFault.TheVariants.{Banner, Read, Memory}
-use Rattle.cla_mtx.specs.Steps.{Refuses, StepWhereTold}
+use Rattle.cla_mtx.specs.Steps.{Refuses}
 
 tells_on : (e : MtxFault) (P Q : Type 0) → (P → Q) → Refuses e P → Refuses e Q
 tells_on (Banner n) P Q so h = (h.0, so h.1)

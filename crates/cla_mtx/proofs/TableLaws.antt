@@ -1,27 +1,24 @@
 -- How the parts of an array file make the whole.
-use Rattle.std.proofs.Common.{zero, suc, ◌==◌, ◌≡◌, ℕ, ℤ, pos, ◌+◌, ◌*◌, ◌/◌, ◌%◌, ◌^◌, ◌<◌, ◌≤◌, List, [], ◌∷◌, ◌++◌, length, map, get_or, All, Option, Some, None, Result, Ok, Err, refl, ap, sym, subst, ◌∙◌, arith, append-nil}
+use Rattle.std.proofs.Common.{zero, suc, ◌==◌, ◌≡◌, ℕ, ℤ, pos, ◌+◌, ◌*◌, ◌/◌, ◌%◌, ◌^◌, ◌<◌, ◌≤◌, List, [], ◌∷◌, ◌++◌, length, map, get_or, All, Option, Some, None, Ok, ap, sym, subst, ◌∙◌, arith, append-nil}
 use Rattle.std.specs.List.{range_with_len, before_first, after_first}
 use Rattle.std.specs.Str.Parse.{digits_value}
 use Rattle.std.proofs.lemmas.List.Elements.{All-from_get_or, All-get_or}
-use Rattle.std.proofs.lemmas.List.{get_or-map, length-map}
+use Rattle.std.proofs.lemmas.List.{length-map}
 use Rattle.std.proofs.lemmas.List.FromFn.{length-map-range_with_len, get_or-map-range_with_len}
 use Rattle.std.proofs.Math.Nat.{mul_comm, mul-le-mul_left}
 use Rattle.cla_spec.specs.Numbers.{InRange, decimal_of}
-use Rattle.cla_spec.specs.Matrix.{Matrix, IsShaped, IsWellMade, most_cells}
-use Rattle.cla_spec.specs.Lines.{lines_of}
+use Rattle.cla_spec.specs.Matrix.{Matrix, IsShaped, IsWellMade}
 use Rattle.cla_spec.specs.ArrayFile.{array_banner, size_line, array_lines, column_by_column, from_columns, IsArrayFile}
 use Rattle.cla_spec.proofs.LineLemmas.{lines_of-empty}
 use Rattle.cla_spec.proofs.Decimals.{numbers_of_size}
 use Rattle.cla_spec.proofs.ArrayFileLaws.{column_by_column-from_columns, column_by_column-in_range}
 use Rattle.cla_io.specs.Lines.{Progress}
-use Rattle.cla_mtx.specs.declared.fault.MtxFault.{MtxFault}
-use Rattle.cla_mtx.specs.declared.fault.MtxFault.TheVariants.{Banner, Read, Memory}
 use Rattle.cla_mtx.specs.Steps.{StepWhereTold}
 use Rattle.cla_io.specs.Steps.{Lines}
 use Rattle.cla_mtx.specs.Size.{IsSize, NeverHead}
 use Rattle.cla_mtx.specs.Entries.{NeverEntries}
 use Rattle.cla_mtx.proofs.RowLaws.{place_within}
-use Rattle.cla_mtx.specs.Table.{TakesTable, NeverTable, ReadsText, ReadsArrayFile}
+use Rattle.cla_mtx.specs.Table.{TakesTable, NeverTable, ReadsArrayFile}
 
 small_size : (rows cols : ℕ) → IsSize rows cols → (rows < 2 ^ 63) × (cols < 2 ^ 63)
 small_size rows cols s = (omega (arith, mul-le-mul_left rows s.a_col, s.few), omega (arith, mul-le-mul_left cols s.a_row, mul_comm rows cols, s.few))
@@ -79,9 +76,9 @@ made_in_range bits rows cols values shape small =
     let n = rows * cols in
     let f = λ (p : ℕ). get_or values ((p % cols) * rows + p / cols) (pos 0) in
     All-from_get_or (InRange bits) (map f (range_with_len 0 n)) (pos 0) (λ i lt.
-      let below : i < n = omega (arith, lt, length-map-range_with_len f 0 n) in
-      let there : (i % cols) * rows + i / cols < length values = omega (arith, place_within rows cols i shape.a_col below, shape.count) in
-      rw (get_or-map-range_with_len f 0 n i i (pos 0) below (omega arith)) (All-get_or (InRange bits) values ((i % cols) * rows + i / cols) (pos 0) there small))
+    let below : i < n = omega (arith, lt, length-map-range_with_len f 0 n) in
+    let there : (i % cols) * rows + i / cols < length values = omega (arith, place_within rows cols i shape.a_col below, shape.count) in
+    rw (get_or-map-range_with_len f 0 n i i (pos 0) below (omega arith)) (All-get_or (InRange bits) values ((i % cols) * rows + i / cols) (pos 0) there small))
 
 made_well : (bits rows cols : ℕ) (values : List ℤ) → IsShaped rows cols values → All (InRange bits) values → IsWellMade bits (from_columns rows cols values)
 made_well bits rows cols values shape small = record {
@@ -107,7 +104,8 @@ table_read bits rows cols values cells p q (Some a) (Some b) start shape small i
 
 pub shaped_cells : {N : Type 0} (value : N → ℤ) (rows cols : ℕ) (entries cells : List N) → IsShaped rows cols entries → map value cells ≡ (from_columns rows cols (map value entries)).cells → IsShaped rows cols cells
 shaped_cells {N} value rows cols entries cells shape is = record {
-  a_row = shape.a_row; a_col = shape.a_col;
+  a_row = shape.a_row;
+  a_col = shape.a_col;
   count = sym (length-map cells value) ∙ ap (λ (xs : List ℤ). length xs) is ∙ length-map-range_with_len _ 0 (rows * cols);
   few = shape.few;
 }

@@ -28,10 +28,7 @@ pub(crate) fn next<F: Files>(input: &mut Input<'_, F>) -> Result<bool, MtxFault>
 }
 
 /// Takes the next line, which has to be this one.
-pub(crate) fn expect_line<F: Files>(
-    input: &mut Input<'_, F>,
-    wanted: &[u8],
-) -> Result<(), MtxFault>
+pub(crate) fn expect_line<F: Files>(input: &mut Input<'_, F>, wanted: &[u8]) -> Result<(), MtxFault>
     ensures same_reference { input.new.files.ghost_name ≡ input.old.files.ghost_name }
     ensures frame { ReadsOn (F.state input.old.files.now) (F.state input.new.files.now) }
     ensures cause { HasReadCause (F.state input.old.files.now).read_faults (F.state input.new.files.now).read_faults result }

@@ -1,5 +1,5 @@
 -- The first fault of an operator.
-use Rattle.std.specs.Prelude.{ℕ, ℤ, ◌+◌, ◌/◌, ◌%◌, ◌^◌, List, [], ◌∷◌, Option, Some, None, if◌then◌else◌}
+use Rattle.std.specs.Prelude.{ℕ, ℤ, ◌+◌, ◌/◌, ◌%◌, List, [], ◌∷◌, Option, Some, None, if◌then◌else◌}
 use Rattle.cla_spec.specs.Numbers.{in_range}
 use Rattle.cla_num.specs.declared.fault.What.{What}
 use Rattle.cla_num.specs.declared.fault.What.TheVariants.{Range, Zero}

@@ -50,6 +50,8 @@ impl<const B: u32> Number for Int<B> {
     }
 
     ghost in_range = { λ x. x.in_range };
+
     ghost order = { λ x y. refl };
+
     ghost equality = { λ x y. refl };
 }

@@ -1,15 +1,15 @@
 -- Decimal texts give their integers back.
-use Rattle.std.proofs.Common.{◌≡◌, ℕ, ℤ, pos, negsuc, ◌+◌, ◌^◌, ◌<◌, ◌≤◌, ◌==◌, List, [], ◌∷◌, ◌++◌, length, get_or, not, true, false, refl, ap, sym, ◌∙◌, suc, map, neg_ℤ, arith}
+use Rattle.std.proofs.Common.{◌≡◌, ℕ, ℤ, pos, negsuc, ◌^◌, ◌<◌, ◌==◌, List, [], ◌∷◌, ◌++◌, length, get_or, not, refl, ap, ◌∙◌, suc, map, neg_ℤ, arith}
 use Rattle.std.proofs.Math.Seq.{take-append_seam, drop-append-add}
 use Rattle.std.proofs.lemmas.Bool.{ne_eqb, eq-eqb}
 use Rattle.std.specs.Int.RustNames.{unsigned_abs}
 use Rattle.std.specs.List.{prefix_len, before_first, after_first}
 use Rattle.std.specs.Fmt.{decimal}
-use Rattle.std.specs.Str.Parse.{AllDigits, IsNumeral, digits_value, signed_digits_value}
+use Rattle.std.specs.Str.Parse.{AllDigits, digits_value, signed_digits_value}
 use Rattle.std.proofs.lemmas.Fmt.{decimal_is_IsNumeral}
 use Rattle.std.proofs.lemmas.Str.Parse.{digit_from_value, digit_at}
 use Rattle.std.proofs.lemmas.List.Folds.{prefix_len-append}
-use Rattle.cla_spec.specs.Numbers.{InRange, decimal_of}
+use Rattle.cla_spec.specs.Numbers.{decimal_of}
 
 -- a numeral has no blank
 no_blank : (ds : List ℕ) → AllDigits 10 ds → prefix_len (λ b. not (b == 32)) ds ≡ length ds
@@ -52,6 +52,7 @@ pub numbers_of_size : (m n : ℕ) → m < 2 ^ 63 → n < 2 ^ 63
 numbers_of_size m n small_m small_n =
     let first = decimal_is_IsNumeral m (omega arith) in
     let second = decimal_is_IsNumeral n (omega arith) in
-    let blank = blank_in_size m n small_m in
-    (rw (blank, take-append_seam (decimal m) (32 ∷ decimal n)) first.1,
-      rw (blank, drop-append-add (decimal m) (32 ∷ decimal n) 1) second.1)
+    let blank = blank_in_size m n small_m in (
+      rw (blank, take-append_seam (decimal m) (32 ∷ decimal n)) first.1,
+      rw (blank, drop-append-add (decimal m) (32 ∷ decimal n) 1) second.1,
+    )

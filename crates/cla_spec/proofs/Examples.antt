@@ -1,9 +1,8 @@
 -- Worked examples of the definitions, computed.
-use Rattle.std.specs.Prelude.{◌≡◌, ℕ, ℤ, pos, negsuc, List, [], ◌∷◌, ◌++◌, codes, Option, Some, None, refl}
+use Rattle.std.specs.Prelude.{◌≡◌, ℕ, pos, negsuc, List, [], ◌∷◌, ◌++◌, codes, Some, refl}
 use Rattle.std.specs.Fmt.{digits}
-use Rattle.std.specs.Str.Parse.{digits_value, signed_digits_value}
 use Rattle.cla_spec.specs.Numbers.{decimal_of}
-use Rattle.cla_spec.specs.Matrix.{Matrix, exact_sum}
+use Rattle.cla_spec.specs.Matrix.{exact_sum}
 use Rattle.cla_spec.specs.Lines.{lines_of}
 use Rattle.cla_spec.specs.ArrayFile.{array_in}
 use Rattle.cla_spec.specs.SumScript.{table_read_by}

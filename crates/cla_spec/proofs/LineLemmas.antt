@@ -1,8 +1,8 @@
 -- Laws of the lines of a text.
-use Rattle.std.proofs.Common.{◌≡◌, ℕ, suc, ◌+◌, ◌-◌, ◌<◌, ◌≤◌, List, [], ◌∷◌, ◌++◌, length, take, drop, Bool, true, false, refl, ap, sym, ◌∙◌, arith, inl, inr, ne_eqb, length-drop, length-take}
+use Rattle.std.proofs.Common.{◌≡◌, ℕ, suc, ◌+◌, ◌<◌, ◌≤◌, List, [], ◌∷◌, length, take, drop, Bool, refl, ap, sym, ◌∙◌, arith, inl, inr, ne_eqb, length-drop, length-take}
 use Rattle.std.proofs.lemmas.Bool.{cases_Bool}
 use Rattle.std.proofs.lemmas.List.{drop-drop}
-use Rattle.std.specs.List.{slice_split, position_or_len, before_first, after_first}
+use Rattle.std.specs.List.{slice_split, position_or_len, before_first}
 use Rattle.cla_spec.specs.Lines.{is_lf, without_cr, ended_lines, lines_of, first_line, after_line}
 
 one_more : (k : ℕ) → 1 + k ≡ suc k
@@ -16,9 +16,9 @@ later p (b ∷ bs) = slice_split p bs
 split_head : (p : ℕ → Bool) (s : List ℕ) → slice_split p s ≡ take (position_or_len p s) s ∷ later p (drop (position_or_len p s) s)
 split_head p [] = refl
 split_head p (b ∷ bs) = elim (cases_Bool (p b)) [
-    | inl ends ↦ rw ends refl
-    | inr goes ↦ rw (goes, one_more, split_head p bs) refl
-  ]
+  | inl ends ↦ rw ends refl
+  | inr goes ↦ rw (goes, one_more, split_head p bs) refl
+]
 
 cut : (piece r : List ℕ) → (length r ≡ 0 → 0 < length piece) → ended_lines (piece ∷ later is_lf r) ≡ without_cr piece ∷ ended_lines (slice_split is_lf (drop 1 r))
 cut piece [] h = rw (ne_eqb (length piece) 0 (λ e. omega (arith, e, h refl))) refl

@@ -1,5 +1,5 @@
 -- The lines of a text. A line ends at LF, and one CR at its end is dropped; bytes after the last LF are a line.
-use Rattle.std.specs.Prelude.{ℕ, ◌+◌, ◌-◌, List, [], ◌∷◌, length, take, Bool, ◌==◌, ◌&&◌, nat_lt, if◌then◌else◌, slice_index}
+use Rattle.std.specs.Prelude.{ℕ, ◌-◌, List, [], ◌∷◌, length, take, Bool, ◌==◌, ◌&&◌, nat_lt, if◌then◌else◌, slice_index}
 use Rattle.std.specs.List.{slice_split, before_first, after_first}
 
 abbrev pub is_lf : ℕ → Bool

@@ -8,11 +8,9 @@ ghost use Rattle.cla_spec.specs.SumScript.{SumScriptsAreFound};
 /// A text is the array file of one matrix at most, and `array_in` finds it exactly where there is one.
 pub fn array_files_are_found()
     ensures { ArrayFilesAreFound }
-{
-}
+{}
 
 /// A sum script reads one table, and `table_read_by` finds its name exactly where a text is one.
 pub fn sum_scripts_are_found()
     ensures { SumScriptsAreFound }
-{
-}
+{}

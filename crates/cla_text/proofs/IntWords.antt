@@ -1,5 +1,5 @@
 -- What parsing a word of the form of an integer gives.
-use Rattle.std.proofs.Common.{◌≡◌, ℕ, ℤ, pos, negsuc, ◌^◌, ◌<◌, ◌-◌, List, [], ◌∷◌, length, Bool, true, false, ◌==◌, Result, Ok, Err, refl, arith, inl, inr}
+use Rattle.std.proofs.Common.{◌≡◌, ℕ, ℤ, pos, negsuc, ◌<◌, ◌-◌, List, [], ◌∷◌, true, false, ◌==◌, Ok, Err, refl, arith, inl, inr}
 use Rattle.std.proofs.lemmas.Bool.{cases_Bool, and_parts, ltb-true, lt-ltb, eqb-true}
 use Rattle.std.proofs.lemmas.Bool.Decides.{nat_tests}
 use Rattle.std.specs.List.{list_all}
@@ -9,7 +9,6 @@ use Rattle.std.specs.Int.RustNames.{FitsSigned}
 use Rattle.std.specs.Str.{IsAscii}
 use Rattle.std.specs.Str.Parse.{AllDigits, IsNumeral, without_leading_sign, signed_digits_value}
 use Rattle.std.proofs.lemmas.Str.Ascii.{IsAscii-nil, IsAscii-cons}
-use Rattle.cla_text.specs.declared.integer.BadInt.{BadInt}
 use Rattle.cla_text.specs.declared.integer.BadInt.TheVariants.{Form, Wide}
 use Rattle.cla_text.specs.Integers.{are_digits, is_int_word, fits_128, int_of}
 
@@ -34,12 +33,12 @@ pub int_word_ascii : (word : List ℕ) → is_int_word word ≡ true → IsAscii
 unfolding is_int_word
 int_word_ascii [] h = IsAscii-nil
 int_word_ascii (b ∷ bs) h = elim (cases_Bool (b == 45)) [
-    | inl minus ↦ IsAscii-cons b bs (omega (arith, eqb-true b 45 minus)) (numeral bs (rw minus at h)).0
-    | inr other ↦ elim (cases_Bool (b == 43)) [
-      | inl plus ↦ IsAscii-cons b bs (omega (arith, eqb-true b 43 plus)) (numeral bs (rw (other, plus) at h)).0
-      | inr none ↦ (numeral (b ∷ bs) (rw (other, none) at h)).0
-    ]
+  | inl minus ↦ IsAscii-cons b bs (omega (arith, eqb-true b 45 minus)) (numeral bs (rw minus at h)).0
+  | inr other ↦ elim (cases_Bool (b == 43)) [
+    | inl plus ↦ IsAscii-cons b bs (omega (arith, eqb-true b 43 plus)) (numeral bs (rw (other, plus) at h)).0
+    | inr none ↦ (numeral (b ∷ bs) (rw (other, none) at h)).0
   ]
+]
 
 does_fit : (v : ℤ) → FitsSigned w128 v → fits_128 v ≡ true
 does_fit (pos n) h = lt-ltb _ _ h.sfits
@@ -56,9 +55,9 @@ int_ok word v h fits is = rw (h, is, does_fit (signed_digits_value 10 word) fits
 pub int_wide : (word : List ℕ) → is_int_word word ≡ true → (IsNumeral 10 (without_leading_sign word) × FitsSigned w128 (signed_digits_value 10 word) → ⊥) → int_of word ≡ Err Wide
 unfolding int_of is_int_word
 int_wide word h parsed = elim (cases_Bool (fits_128 (signed_digits_value 10 word))) [
-    | inl fits ↦ absurd (parsed ((numeral (without_leading_sign word) h).1, fits_from _ fits))
-    | inr wide ↦ rw (h, wide) refl
-  ]
+  | inl fits ↦ absurd (parsed ((numeral (without_leading_sign word) h).1, fits_from _ fits))
+  | inr wide ↦ rw (h, wide) refl
+]
 
 pub int_form : (word : List ℕ) → is_int_word word ≡ false → int_of word ≡ Err Form
 unfolding int_of

@@ -16,8 +16,8 @@ returns-in-Err-clause-step g c =
     let old = c.args.input.now in
     let new = c.read_name.new.input in
     refused_as Refuses tells TakesName NeverName TakesScript NeverScript
-      old.taken new.taken (ahead_of old.taken (left (g.F.Files.state old.files.now))) (ahead_of new.taken (left (g.F.Files.state new.files.now))) c.in-Err.fault c.in-Err.ensures.step
-      (λ before bad. no_name before bad)
+    old.taken new.taken (ahead_of old.taken (left (g.F.Files.state old.files.now))) (ahead_of new.taken (left (g.F.Files.state new.files.now))) c.in-Err.fault c.in-Err.ensures.step
+    (λ before bad. no_name before bad)
 
 pub returns-in-Err-expect_line-clause-step : goal.returns-in-Err-expect_line-clause-step
 returns-in-Err-expect_line-clause-step g c =
@@ -25,9 +25,9 @@ returns-in-Err-expect_line-clause-step g c =
     let middle = c.read_name.new.input in
     let new = c.expect_line.new.input in
     then_refused Refuses tells TakesName NeverName (BeginsWith print_line) (NeverBegins print_line) TakesScript NeverScript
-      old.taken middle.taken new.taken (ahead_of old.taken (left (g.F.Files.state old.files.now))) (ahead_of middle.taken (left (g.F.Files.state middle.files.now))) (ahead_of new.taken (left (g.F.Files.state new.files.now)))
-      c.in-Ok.name c.in-Err-expect_line.fault c.in-Ok.ensures.limit c.in-Ok.ensures.step c.in-Err-expect_line.ensures.step
-      (λ before after begins bad. no_print before after c.in-Ok.name begins.0 bad)
+    old.taken middle.taken new.taken (ahead_of old.taken (left (g.F.Files.state old.files.now))) (ahead_of middle.taken (left (g.F.Files.state middle.files.now))) (ahead_of new.taken (left (g.F.Files.state new.files.now)))
+    c.in-Ok.name c.in-Err-expect_line.fault c.in-Ok.ensures.limit c.in-Ok.ensures.step c.in-Err-expect_line.ensures.step
+    (λ before after begins bad. no_print before after c.in-Ok.name begins.0 bad)
 
 pub returns-in-Err-expect_end-clause-step : goal.returns-in-Err-expect_end-clause-step
 returns-in-Err-expect_end-clause-step g c =
@@ -39,10 +39,10 @@ returns-in-Err-expect_end-clause-step g c =
     let o1 = ahead_of old.taken (left (g.F.Files.state old.files.now)) in
     let o3 = ahead_of two.taken (left (g.F.Files.state two.files.now)) in
     let lines = then_good Refuses TakesName NeverName (BeginsWith print_line) (NeverBegins print_line)
-      (λ (before after : Lines) (n : List ℕ). (middle : Lines) × (before ≡ read_line n ∷ middle) × (middle ≡ print_line ∷ after)) NeverScript
-      old.taken one.taken two.taken o1 (ahead_of one.taken (left (g.F.Files.state one.files.now))) o3
-      name tt name c.in-Ok.ensures.step c.in-Ok-expect_line.ensures.step (λ before middle after first second. (middle, first.0, second)) in
+    (λ (before after : Lines) (n : List ℕ). (middle : Lines) × (before ≡ read_line n ∷ middle) × (middle ≡ print_line ∷ after)) NeverScript
+    old.taken one.taken two.taken o1 (ahead_of one.taken (left (g.F.Files.state one.files.now))) o3
+    name tt name c.in-Ok.ensures.step c.in-Ok-expect_line.ensures.step (λ before middle after first second. (middle, first.0, second)) in
     then_refused Refuses tells (λ (before after : Lines) (n : List ℕ). (middle : Lines) × (before ≡ read_line n ∷ middle) × (middle ≡ print_line ∷ after)) NeverScript Ends NeverEnds TakesScript NeverScript
-      old.taken two.taken new.taken o1 o3 (ahead_of new.taken (left (g.F.Files.state new.files.now)))
-      name c.in-Err-expect_end.fault (c.in-Ok-expect_line.ensures.limit ∙ c.in-Ok.ensures.limit) lines c.in-Err-expect_end.ensures.step
-      (λ before after taken bad. no_end before taken.0 after name taken.1 taken.2 bad)
+    old.taken two.taken new.taken o1 o3 (ahead_of new.taken (left (g.F.Files.state new.files.now)))
+    name c.in-Err-expect_end.fault (c.in-Ok-expect_line.ensures.limit ∙ c.in-Ok.ensures.limit) lines c.in-Err-expect_end.ensures.step
+    (λ before after taken bad. no_end before taken.0 after name taken.1 taken.2 bad)

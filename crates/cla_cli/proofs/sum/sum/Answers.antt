@@ -1,4 +1,4 @@
-use Rattle.std.proofs.Common.{◌≡◌, ℤ, ◌∙◌, sym, refl}
+use Rattle.std.proofs.Common.{◌≡◌, ◌∙◌, refl}
 use Rattle.cla_num.proofs.Faults.{scalar_in_range, scalar_out_of_range}
 use Rattle.cla_spec.specs.Matrix.{exact_sum}
 use Rattle.cla_cli.proofs.SumLaws.{total_is}

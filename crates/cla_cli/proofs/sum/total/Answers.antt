@@ -1,6 +1,5 @@
-use Rattle.std.proofs.Common.{ℕ, pos, ◌^◌, ◌<◌, ap, sym, ◌∙◌, map, get_or, arith}
+use Rattle.std.proofs.Common.{ℕ, pos, ap, sym, ◌∙◌, map, get_or, arith}
 use Rattle.std.proofs.lemmas.List.{get_or-map}
-use Rattle.std.specs.Int.RustNames.{unsigned_abs}
 use Rattle.cla_num.proofs.Bounds.{in_64_bits}
 use Rattle.cla_cli.proofs.SumLaws.{least_step, most_step, sum_fits, one_more}
 use Rattle.cla_cli.proofs.sum.total.Goals as goal
@@ -22,7 +21,7 @@ loop-cell-preserved g c =
     let next = c.plus-sum.ensures in
     record {
       so_far = one_more (λ (p : ℕ). get_or (map value c.args.cells.now) p (pos 0)) i c.loop-cell.sum c.wide.result c.plus-sum.result next before.so_far
-        (c.wide.ensures ∙ ap value c.cell-item.is ∙ sym (get_or-map value c.args.cells.now i item (pos 0) c.loop-cell-test.true));
+          (c.wide.ensures ∙ ap value c.cell-item.is ∙ sym (get_or-map value c.args.cells.now i item (pos 0) c.loop-cell-test.true));
       least = rw (next, c.wide.ensures) (least_step c.loop-cell.sum (value item) i before.least small);
       most = rw (next, c.wide.ensures) (most_step c.loop-cell.sum (value item) i before.most small);
     }

@@ -19,6 +19,6 @@ returns-in-Err-read_entry-clause-step g c =
     let new = c.read_entry.new.input in
     let entries = c.loop-input.values.items in
     then_refused Refuses tells (TakesEntries value) (NeverEntries bits count) (TakesEntry value) (NeverEntry bits) (λ (before after : Lines) (v : Vec g.row.N.Denot Global). TakesEntries value before after v.items) (NeverEntries bits count)
-      old.taken middle.taken new.taken (ahead_of old.taken (left (g.F.Files.state old.files.now))) (ahead_of middle.taken (left (g.F.Files.state middle.files.now))) (ahead_of new.taken (left (g.F.Files.state new.files.now)))
-      entries c.in-Err-read_entry.fault c.loop-input.invariant.limit c.loop-input.invariant.step c.in-Err-read_entry.ensures.step
-      (λ before after taken bad. no_more_entries value bits count before after entries (omega (arith, c.loop-input-test.true, c.len.ensures)) taken bad)
+    old.taken middle.taken new.taken (ahead_of old.taken (left (g.F.Files.state old.files.now))) (ahead_of middle.taken (left (g.F.Files.state middle.files.now))) (ahead_of new.taken (left (g.F.Files.state new.files.now)))
+    entries c.in-Err-read_entry.fault c.loop-input.invariant.limit c.loop-input.invariant.step c.in-Err-read_entry.ensures.step
+    (λ before after taken bad. no_more_entries value bits count before after entries (omega (arith, c.loop-input-test.true, c.len.ensures)) taken bad)

@@ -13,7 +13,7 @@ invariant-loop-input g l = record {
   limit : l.input.taken.limit ≡ l.fn.input.taken.limit;
   few : length l.values.items ≤ l.count;
   step : StepWhereTold (TakesEntries g.N.Number.value) (NeverEntries g.N.Number.BITS l.count) l.fn.input.taken l.input.taken
-    (ahead_of l.fn.input.taken (left (g.F.Files.state l.fn.input.files.now))) (ahead_of l.input.taken (left (g.F.Files.state l.input.files.now))) (Ok l.values.items);
+      (ahead_of l.fn.input.taken (left (g.F.Files.state l.fn.input.files.now))) (ahead_of l.input.taken (left (g.F.Files.state l.input.files.now))) (Ok l.values.items);
 }
 
 -- how many entries are left to take

@@ -2,7 +2,6 @@ use Rattle.cla_io.specs.State.{left}
 use Rattle.cla_io.specs.Lines.{ahead_of}
 use Rattle.cla_io.proofs.StepLaws.{next_line_good}
 use Rattle.cla_mtx.specs.Steps.{Refuses}
-use Rattle.cla_mtx.proofs.StepLaws.{tells}
 use Rattle.cla_mtx.proofs.line.next.Goals as goal
 
 pub returns-in-Ok-clause-step : goal.returns-in-Ok-clause-step

@@ -6,7 +6,6 @@ use Rattle.cla_io.specs.Steps.{Lines}
 use Rattle.cla_mtx.specs.Table.{TakesTable, NeverTable}
 use Rattle.cla_io.proofs.StepLaws.{good_as}
 use Rattle.cla_mtx.specs.Steps.{Refuses}
-use Rattle.cla_mtx.proofs.StepLaws.{tells}
 use Rattle.cla_mtx.proofs.TableLaws.{table_read, shaped_cells, shaped_values, numbers_in_range}
 use Rattle.cla_mtx.proofs.reader.read_mtx.Goals as goal
 
@@ -24,6 +23,6 @@ returns-in-Ok-by_rows-clause-reads g c =
     let o1 = ahead_of old.taken (left (g.F.Files.state old.files.now)) in
     let o2 = ahead_of new.taken (left (g.F.Files.state new.files.now)) in
     let step = good_as Refuses (λ (before after : Lines) (x : Columns g.row.N.Denot). TakesTable x.rows x.cols (map value x.entries.items) before after) (NeverTable bits) (λ before after (u : Unit {0}). TakesTable t.rows t.cols values before after) (NeverTable bits)
-      old.taken new.taken o1 o2 t tt c.in-Ok.ensures.step (λ before after h. h) in
+    old.taken new.taken o1 o2 t tt c.in-Ok.ensures.step (λ before after h. h) in
     rw c.new.ensures (table_read bits t.rows t.cols values (map value c.in-Ok-by_rows.cells.items) old.taken new.taken
-      o1 o2 c.requires.start (shaped_values value t.rows t.cols t.entries.items c.in-Ok.ensures.shape) (numbers_in_range value bits g.met.N.Number.in_range t.entries.items) c.in-Ok-by_rows.ensures c.in-Ok.ensures.in_limit c.in-Ok.ensures.limit step)
+    o1 o2 c.requires.start (shaped_values value t.rows t.cols t.entries.items c.in-Ok.ensures.shape) (numbers_in_range value bits g.met.N.Number.in_range t.entries.items) c.in-Ok-by_rows.ensures c.in-Ok.ensures.in_limit c.in-Ok.ensures.limit step)

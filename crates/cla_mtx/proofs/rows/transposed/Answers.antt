@@ -1,4 +1,4 @@
-use Rattle.std.proofs.Common.{ℕ, ◌+◌, ◌*◌, ◌/◌, ◌%◌, ◌<◌, length, sym, ◌∙◌, arith}
+use Rattle.std.proofs.Common.{ℕ, ◌+◌, ◌*◌, ◌/◌, ◌%◌, ◌<◌, length, arith}
 use Rattle.cla_mtx.proofs.RowLaws.{is_within, goes_down, goes_right, one_more_cell, one_longer}
 use Rattle.cla_mtx.proofs.rows.transposed.Goals as goal
 
@@ -14,7 +14,7 @@ loop-cells-preserved-then-place-columns g c =
     record {
       few = omega (arith, long, some);
       cells = one_more_cell g.N.Number.value c.args.columns.now cells c.push.new.self.items c.index-columns-place.result c.loop-cells.place (λ (p : ℕ). (p % cols) * rows + p / cols) c.in_ok-push.ensures.items c.index-columns-place.is
-        (is_within rows cols n (length cells) c.loop-cells.place c.requires.a_col c.requires.count some here) here c.loop-cells.invariant.cells;
+          (is_within rows cols n (length cells) c.loop-cells.place c.requires.a_col c.requires.count some here) here c.loop-cells.invariant.cells;
       place = λ more. goes_down rows cols n (length cells) (length c.push.new.self.items) c.loop-cells.place c.requires.a_col c.requires.count some here long c.if-place-columns.true;
     }
 
@@ -30,6 +30,6 @@ loop-cells-preserved g c =
     record {
       few = omega (arith, long, some);
       cells = one_more_cell g.N.Number.value c.args.columns.now cells c.push.new.self.items c.index-columns-place.result c.loop-cells.place (λ (p : ℕ). (p % cols) * rows + p / cols) c.in_ok-push.ensures.items c.index-columns-place.is
-        (is_within rows cols n (length cells) c.loop-cells.place c.requires.a_col c.requires.count some here) here c.loop-cells.invariant.cells;
+          (is_within rows cols n (length cells) c.loop-cells.place c.requires.a_col c.requires.count some here) here c.loop-cells.invariant.cells;
       place = λ more. goes_right rows cols n (length cells) (length c.push.new.self.items) c.loop-cells.place c.requires.a_col c.requires.count some here long c.if-place-columns.false;
     }

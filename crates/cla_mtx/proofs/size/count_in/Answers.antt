@@ -1,4 +1,4 @@
-use Rattle.std.proofs.Common.{ℕ, pos, ◌<◌, ◌^◌, ◌∙◌, sym, inl, inr, arith}
+use Rattle.std.proofs.Common.{pos, ◌<◌, ◌^◌, ◌∙◌, sym, inl, inr, arith}
 use Rattle.std.specs.Int.RustNames.{unsigned_abs}
 use Rattle.cla_mtx.proofs.SizeLaws.{no_count}
 use Rattle.cla_mtx.proofs.size.count_in.Goals as goal

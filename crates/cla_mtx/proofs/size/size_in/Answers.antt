@@ -1,6 +1,5 @@
-use Rattle.std.proofs.Common.{◌≤◌, ◌*◌, arith}
+use Rattle.std.proofs.Common.{arith}
 use Rattle.std.proofs.lemmas.List.{take_rest}
-use Rattle.cla_spec.specs.Matrix.{most_cells}
 use Rattle.cla_mtx.proofs.SizeLaws.{size_has_blank, no_rows, no_cols, same_counts}
 use Rattle.cla_mtx.proofs.size.size_in.Goals as goal
 

@@ -10,7 +10,7 @@ returns-then-is_some-clause-line g c =
     let t = c.take_line.ensures in
     let lf = c.lf_ahead-lf in
     takes_whole old old c.take_line.new.self here here lf.result c.take_line.result refl (sym t.limit) (same_content old here) lf.ensures.within lf.ensures.place
-      (λ none short. absurd (let e = ap is_some none in cc)) t.held t.within t.line
+    (λ none short. absurd (let e = ap is_some none in cc)) t.held t.within t.line
 
 pub returns-in-Err-clause-line : goal.returns-in-Err-clause-line
 returns-in-Err-clause-line g c =
@@ -24,4 +24,4 @@ returns-clause-line g c =
     let lf = c.lf_ahead-lf-2 in
     let loaded = c.in-Ok.ensures in
     takes_whole c.args.self.now.taken c.load.new.taken c.take_line-2.new.self (left (g.F.Files.state c.args.self.now.files.now)) (left (g.F.Files.state c.load.new.files)) lf.result c.take_line-2.result
-      loaded.only.at (sym t.limit) loaded.content lf.ensures.within lf.ensures.place (λ none short. loaded.all short) t.held t.within t.line
+    loaded.only.at (sym t.limit) loaded.content lf.ensures.within lf.ensures.place (λ none short. loaded.all short) t.held t.within t.line
