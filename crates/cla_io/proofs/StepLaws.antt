@@ -1,5 +1,5 @@
 -- How steps of a reader follow one another.
-use Rattle.std.proofs.Common.{◌≡◌, ℕ, List, Bool, true, false, Option, Some, None, Ok, Err, refl, ◌∙◌, arith}
+use Rattle.std.proofs.Common.{Result, ◌≡◌, ℕ, List, Bool, true, false, Option, Some, None, Ok, Err, refl, ◌∙◌, arith}
 use Rattle.cla_spec.proofs.LineLemmas.{lines_of-nil, lines_of-cons, after_line_shorter}
 use Rattle.cla_io.specs.Lines.{Progress, TakesLineWhereTold}
 use Rattle.cla_io.specs.Steps.{Lines, StepWhereTold, Takes, Never}
@@ -32,6 +32,17 @@ then_good R G1 B1 G2 B2 G B p q r None o2 o3 x y z first second so = rw first at
 then_good R G1 B1 G2 B2 G B p q r (Some a) None o3 x y z first second so = absurd first
 then_good R G1 B1 G2 B2 G B p q r (Some a) (Some b) None x y z first second so = absurd second
 then_good R G1 B1 G2 B2 G B p q r (Some a) (Some b) (Some c) x y z first second so = (so _ _ _ first.0 second.0, second.1 ∙ first.1)
+
+-- a step after a good one, however it ends
+pub then_step : {T U E : Type 0} (Refuses : E → Type 0 → Type 0) → TellsOn Refuses
+    → (G1 : Lines → Lines → T → Type 0) (B1 : Lines → Type 0) (G2 : Lines → Lines → U → Type 0) (B2 : Lines → Type 0) (G : Lines → Lines → U → Type 0) (B : Lines → Type 0)
+    (p q r : Progress) (o1 o2 o3 : Option (List ℕ)) (x : T) (result : Result U E)
+    → q.limit ≡ p.limit → StepWhereTold {T = T} {E = E} Refuses G1 B1 p q o1 o2 (Ok x) → StepWhereTold {T = U} {E = E} Refuses G2 B2 q r o2 o3 result
+    → ((before middle after : Lines) (y : U) → G1 before middle x → G2 middle after y → G before after y)
+    → ((before after : Lines) → G1 before after x → B2 after → B before)
+    → StepWhereTold {T = U} {E = E} Refuses G B p r o1 o3 result
+then_step R tells G1 B1 G2 B2 G B p q r o1 o2 o3 x (Ok y) limit first second good bad = then_good R G1 B1 G2 B2 G B p q r o1 o2 o3 x y y first second (λ before middle after. good before middle after y)
+then_step R tells G1 B1 G2 B2 G B p q r o1 o2 o3 x (Err fault) limit first second good bad = then_refused R tells G1 B1 G2 B2 G B p q r o1 o2 o3 x fault limit first second bad
 
 -- the same step with another refusal of it
 pub refused_as : {T U E : Type 0} (Refuses : E → Type 0 → Type 0) → TellsOn Refuses

@@ -1,11 +1,11 @@
 -- What the lines of entries can't be where one of them is refused.
-use Rattle.std.proofs.Common.{◌≡◌, ℕ, ℤ, pos, negsuc, suc, ◌^◌, ◌<◌, List, [], ◌∷◌, ◌++◌, length, map, All, refl, ap, sym, ◌∙◌, arith}
+use Rattle.std.proofs.Common.{◌≡◌, ℕ, ℤ, pos, negsuc, suc, Option, Some, None, IfSome, MatchOption, ◌^◌, ◌<◌, List, [], ◌∷◌, ◌++◌, length, map, All, refl, ap, sym, ◌∙◌, arith}
 use Rattle.std.proofs.lemmas.Fmt.{signed_decimal_injective}
 use Rattle.std.specs.Int.{w64}
 use Rattle.std.specs.Int.RustNames.{FitsSigned, unsigned_abs}
 use Rattle.cla_spec.specs.Numbers.{InRange, decimal_of}
 use Rattle.cla_io.specs.Steps.{Lines}
-use Rattle.cla_mtx.specs.Entries.{TakesEntry, NeverEntry, TakesEntries, NeverEntries}
+use Rattle.cla_mtx.specs.Entries.{IsNoEntry, TakesEntry, NeverEntry, TakesEntries, NeverEntries}
 
 -- two integers of 64 bits with the same decimal text are the same
 pub same_decimal : (v u : ℤ) → FitsSigned w64 v → unsigned_abs u < 2 ^ 63 → decimal_of v ≡ decimal_of u → v ≡ u
@@ -35,3 +35,8 @@ goes_on value bits after rest bad (x ∷ xs) (u ∷ us) some small e =
 pub no_more_entries : {N : Type 0} (value : N → ℤ) (bits count : ℕ) (before after : Lines) (entries : List N) → length entries < count → TakesEntries value before after entries → NeverEntry bits after → NeverEntries bits count before
 no_more_entries value bits count before after entries some first bad values rest long small e =
     goes_on value bits after rest bad entries values (omega (arith, some, long)) small (sym first ∙ e)
+
+-- the number of a decimal, where it is in range
+pub entry_of : {T : Type 0} (value : T → ℤ) (bits : ℕ) (line : List ℕ) (v : ℤ) (r : Option T) → line ≡ decimal_of v → IfSome r (λ n. value n ≡ v) → (r ≡ None → IsNoEntry bits line) → MatchOption r (IsNoEntry bits line) (λ n. line ≡ decimal_of (value n))
+entry_of value bits line v None is same none = none refl
+entry_of value bits line v (Some n) is same none = rw same is

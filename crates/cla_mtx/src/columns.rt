@@ -37,10 +37,7 @@ pub(crate) fn read_columns<N: Number, F: Files>(
         Err(_) => return Err(MtxFault::Memory),
     };
     while values.len() < count {
-        let entry = match read_entry(input) {
-            Ok(entry) => entry,
-            Err(fault) => return Err(fault),
-        };
+        let entry = read_entry(input)?;
         match values.push(entry) {
             Ok(()) => (),
             Err(_) => return Err(MtxFault::Memory),
@@ -57,14 +54,10 @@ fn read_entry<N: Number, F: Files>(input: &mut Input<'_, F>) -> Result<N, MtxFau
     ensures limit { input.new.taken.limit ≡ input.old.taken.limit }
     ensures step { StepWhereTold (TakesEntry N.value) (NeverEntry N.BITS) input.old.taken input.new.taken (ahead_of input.old.taken (left (F.state input.old.files.now))) (ahead_of input.new.taken (left (F.state input.new.files.now))) result }
 {
-    match next(input) {
-        Ok(true) => match entry_in(input.line()) {
-            Some(entry) => Ok(entry),
-            None => Err(MtxFault::Banner { line: 1 }),
-        },
-        Ok(false) => Err(MtxFault::Banner { line: 1 }),
-        Err(fault) => Err(fault),
+    if !next(input)? {
+        return Err(MtxFault::Banner { line: 1 });
     }
+    entry_in(input.line()).ok_or(MtxFault::Banner { line: 1 })
 }
 
 // The number whose decimal text a line is, if it is one in range.
@@ -72,11 +65,5 @@ fn entry_in<N: Number>(line: &[u8]) -> Option<N>
     requires { IsSupported N.BITS }
     ensures { MatchOption result (IsNoEntry N.BITS line.now) (λ n. line.now ≡ decimal_of (N.value n)) }
 {
-    match decimal_value(line) {
-        Some(v) => match N::of(v) {
-            Some(n) => Some(n),
-            None => None,
-        },
-        None => None,
-    }
+    N::of(decimal_value(line)?)
 }

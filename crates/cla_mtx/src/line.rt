@@ -35,15 +35,10 @@ pub(crate) fn expect_line<F: Files>(input: &mut Input<'_, F>, wanted: &[u8]) -> 
     ensures limit { input.new.taken.limit ≡ input.old.taken.limit }
     ensures step { StepWhereTold (BeginsWith wanted.now) (NeverBegins wanted.now) input.old.taken input.new.taken (ahead_of input.old.taken (left (F.state input.old.files.now))) (ahead_of input.new.taken (left (F.state input.new.files.now))) result }
 {
-    match next(input) {
-        Ok(more) => {
-            if more && input.line() == wanted {
-                Ok(())
-            } else {
-                Err(MtxFault::Banner { line: 1 })
-            }
-        }
-        Err(fault) => Err(fault),
+    if next(input)? && input.line() == wanted {
+        Ok(())
+    } else {
+        Err(MtxFault::Banner { line: 1 })
     }
 }
 
@@ -56,9 +51,9 @@ pub(crate) fn expect_end<F: Files>(input: &mut Input<'_, F>) -> Result<(), MtxFa
     ensures in_limit { OnOk result (input.new.taken.at ≤ input.new.taken.limit) }
     ensures step { StepWhereTold Ends NeverEnds input.old.taken input.new.taken (ahead_of input.old.taken (left (F.state input.old.files.now))) (ahead_of input.new.taken (left (F.state input.new.files.now))) result }
 {
-    match next(input) {
-        Ok(true) => Err(MtxFault::Banner { line: 1 }),
-        Ok(false) => Ok(()),
-        Err(fault) => Err(fault),
+    if next(input)? {
+        Err(MtxFault::Banner { line: 1 })
+    } else {
+        Ok(())
     }
 }

@@ -42,10 +42,7 @@ pub fn read_mtx<N: Number, F: Files>(
     ensures cause { HasReadCause (F.state input.old.files.now).read_faults (F.state input.new.files.now).read_faults result }
     ensures reads { ReadsArrayFile N.BITS input.old.taken.limit (ahead_of input.old.taken (left (F.state input.old.files.now))) (ahead_of input.new.taken (left (F.state input.new.files.now))) result }
 {
-    let columns = match read_table(alloc, input) {
-        Ok(columns) => columns,
-        Err(fault) => return Err(fault),
-    };
+    let columns = read_table(alloc, input)?;
     let Columns {
         rows,
         cols,
@@ -70,20 +67,12 @@ fn read_table<N: Number, F: Files>(
     ensures in_limit { OnOk result (input.new.taken.at ≤ input.new.taken.limit) }
     ensures step { StepWhereTold (λ before after t. TakesTable t.rows t.cols (map N.value t.entries.items) before after) (NeverTable N.BITS) input.old.taken input.new.taken (ahead_of input.old.taken (left (F.state input.old.files.now))) (ahead_of input.new.taken (left (F.state input.new.files.now))) result }
 {
-    let (rows, cols) = match read_head(input) {
-        Ok(size) => size,
-        Err(fault) => return Err(fault),
-    };
-    let entries = match read_columns(alloc, input, rows as usize * cols as usize) {
-        Ok(entries) => entries,
-        Err(fault) => return Err(fault),
-    };
-    match expect_end(input) {
-        Ok(()) => Ok(Columns {
-            rows,
-            cols,
-            entries,
-        }),
-        Err(fault) => Err(fault),
-    }
+    let (rows, cols) = read_head(input)?;
+    let entries = read_columns(alloc, input, rows as usize * cols as usize)?;
+    expect_end(input)?;
+    Ok(Columns {
+        rows,
+        cols,
+        entries,
+    })
 }

@@ -25,14 +25,8 @@ pub(crate) fn read_head<F: Files>(input: &mut Input<'_, F>) -> Result<(u32, u32)
     ensures size { IfOk result (λ size. IsSize size.0 size.1) }
     ensures step { StepWhereTold TakesHead NeverHead input.old.taken input.new.taken (ahead_of input.old.taken (left (F.state input.old.files.now))) (ahead_of input.new.taken (left (F.state input.new.files.now))) result }
 {
-    match expect_line(input, b"%%MatrixMarket matrix array integer general") {
-        Ok(()) => (),
-        Err(fault) => return Err(fault),
-    }
-    match read_size(input) {
-        Ok(size) => Ok(size),
-        Err(fault) => Err(fault),
-    }
+    expect_line(input, b"%%MatrixMarket matrix array integer general")?;
+    read_size(input)
 }
 
 fn read_size<F: Files>(input: &mut Input<'_, F>) -> Result<(u32, u32), MtxFault>
@@ -43,32 +37,19 @@ fn read_size<F: Files>(input: &mut Input<'_, F>) -> Result<(u32, u32), MtxFault>
     ensures size { IfOk result (λ size. IsSize size.0 size.1) }
     ensures step { StepWhereTold TakesSize NeverSize input.old.taken input.new.taken (ahead_of input.old.taken (left (F.state input.old.files.now))) (ahead_of input.new.taken (left (F.state input.new.files.now))) result }
 {
-    match next(input) {
-        Ok(true) => match size_in(input.line()) {
-            Some(size) => Ok(size),
-            None => Err(MtxFault::Banner { line: 1 }),
-        },
-        Ok(false) => Err(MtxFault::Banner { line: 1 }),
-        Err(fault) => Err(fault),
+    if !next(input)? {
+        return Err(MtxFault::Banner { line: 1 });
     }
+    size_in(input.line()).ok_or(MtxFault::Banner { line: 1 })
 }
 
 // The numbers of rows and of columns in a size line, if it is one of a matrix that isn't too large.
 fn size_in(line: &[u8]) -> Option<(u32, u32)>
     ensures { MatchOption result (IsNoSizeLine line.now) (IsSizeLine line.now) }
 {
-    let place = match memchr(b' ', line) {
-        Some(place) => place,
-        None => return None,
-    };
-    let rows = match count_in(&line[..place]) {
-        Some(rows) => rows,
-        None => return None,
-    };
-    let cols = match count_in(&line[place + 1..]) {
-        Some(cols) => cols,
-        None => return None,
-    };
+    let place = memchr(b' ', line)?;
+    let rows = count_in(&line[..place])?;
+    let cols = count_in(&line[place + 1..])?;
     if u64::from(rows) * u64::from(cols) <= MOST_CELLS {
         Some((rows, cols))
     } else {
@@ -80,14 +61,10 @@ fn size_in(line: &[u8]) -> Option<(u32, u32)>
 fn count_in(word: &[u8]) -> Option<u32>
     ensures { MatchOption result (IsNoCount word.now) (IsCount word.now) }
 {
-    match decimal_value(word) {
-        Some(v) => {
-            if v >= 1 && v <= 1 << 26 {
-                Some(v as u32)
-            } else {
-                None
-            }
-        }
-        None => None,
+    let v = decimal_value(word)?;
+    if v >= 1 && v <= 1 << 26 {
+        Some(v as u32)
+    } else {
+        None
     }
 }
