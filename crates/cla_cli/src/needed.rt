@@ -28,10 +28,7 @@ pub(crate) fn read_script<F: Files>(
     ensures cause { HasStopCause (F.state files.old) (F.state files.new) result }
     ensures reads { ReadsScript (F.state files.old).told name.now result }
 {
-    match open(files, name) {
-        Ok(()) => (),
-        Err(stopped) => return Err(stopped),
-    }
+    open(files, name)?;
     let mut input = match Input::new(alloc, files, SCRIPT_BYTES) {
         Ok(input) => input,
         Err(_) => return Err(Stopped::Memory),
@@ -55,10 +52,7 @@ pub(crate) fn read_table<N: Number, F: Files>(
     ensures cause { HasStopCause (F.state files.old) (F.state files.new) result }
     ensures reads { ReadsTable N.BITS (F.state files.old).told name.now result }
 {
-    match open(files, name) {
-        Ok(()) => (),
-        Err(stopped) => return Err(stopped),
-    }
+    open(files, name)?;
     let mut input = match Input::new(alloc, files, TABLE_BYTES) {
         Ok(input) => input,
         Err(_) => return Err(Stopped::Memory),

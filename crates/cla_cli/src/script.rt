@@ -34,18 +34,10 @@ pub(crate) fn read_sum_script<F: Files>(
     ensures in_limit { OnOk result (input.new.taken.at ≤ input.new.taken.limit) }
     ensures step { StepWhereTold Refuses TakesScript NeverScript input.old.taken input.new.taken (ahead_of input.old.taken (left (F.state input.old.files.now))) (ahead_of input.new.taken (left (F.state input.new.files.now))) result }
 {
-    let name = match read_name(alloc, input) {
-        Ok(name) => name,
-        Err(fault) => return Err(fault),
-    };
-    match expect_line(input, b"print(sum(X))") {
-        Ok(()) => (),
-        Err(fault) => return Err(fault),
-    }
-    match expect_end(input) {
-        Ok(()) => Ok(name),
-        Err(fault) => Err(fault),
-    }
+    let name = read_name(alloc, input)?;
+    expect_line(input, b"print(sum(X))")?;
+    expect_end(input)?;
+    Ok(name)
 }
 
 fn next<F: Files>(input: &mut Input<'_, F>) -> Result<bool, LineFault>
@@ -71,15 +63,10 @@ fn expect_line<F: Files>(input: &mut Input<'_, F>, wanted: &[u8]) -> Result<(), 
     ensures limit { input.new.taken.limit ≡ input.old.taken.limit }
     ensures step { StepWhereTold Refuses (BeginsWith wanted.now) (NeverBegins wanted.now) input.old.taken input.new.taken (ahead_of input.old.taken (left (F.state input.old.files.now))) (ahead_of input.new.taken (left (F.state input.new.files.now))) result }
 {
-    match next(input) {
-        Ok(more) => {
-            if more && input.line() == wanted {
-                Ok(())
-            } else {
-                Err(LineFault::Form)
-            }
-        }
-        Err(fault) => Err(fault),
+    if next(input)? && input.line() == wanted {
+        Ok(())
+    } else {
+        Err(LineFault::Form)
     }
 }
 
@@ -91,10 +78,10 @@ fn expect_end<F: Files>(input: &mut Input<'_, F>) -> Result<(), LineFault>
     ensures in_limit { OnOk result (input.new.taken.at ≤ input.new.taken.limit) }
     ensures step { StepWhereTold Refuses Ends NeverEnds input.old.taken input.new.taken (ahead_of input.old.taken (left (F.state input.old.files.now))) (ahead_of input.new.taken (left (F.state input.new.files.now))) result }
 {
-    match next(input) {
-        Ok(true) => Err(LineFault::Form),
-        Ok(false) => Ok(()),
-        Err(fault) => Err(fault),
+    if next(input)? {
+        Err(LineFault::Form)
+    } else {
+        Ok(())
     }
 }
 
@@ -106,15 +93,10 @@ fn read_name<F: Files>(alloc: Global, input: &mut Input<'_, F>) -> Result<Name, 
     ensures limit { input.new.taken.limit ≡ input.old.taken.limit }
     ensures step { StepWhereTold Refuses TakesName NeverName input.old.taken input.new.taken (ahead_of input.old.taken (left (F.state input.old.files.now))) (ahead_of input.new.taken (left (F.state input.new.files.now))) result }
 {
-    match next(input) {
-        Ok(true) => (),
-        Ok(false) => return Err(LineFault::Form),
-        Err(fault) => return Err(fault),
+    if !next(input)? {
+        return Err(LineFault::Form);
     }
-    let text = match text_in(input.line()) {
-        Some(text) => text,
-        None => return Err(LineFault::Form),
-    };
+    let text = text_in(input.line()).ok_or(LineFault::Form)?;
     match Name::of(alloc, text) {
         Ok(name) => Ok(name),
         Err(_) => Err(LineFault::Memory),

@@ -8,15 +8,15 @@ returns-in-Ok-read_sum_script-clause-reads g c =
     let old = g.F.Files.state c.args.files.now in
     let opened = g.F.Files.state c.open.new.files in
     let new = c.read_sum_script.new.input in
-    let made = c.in-Ok-new.ensures in
-    script_read old.told opened.told opened.reading c.args.name.now c.in-Ok-read_sum_script.table c.in-Ok-new.input.taken new.taken (ahead_of new.taken (left (g.F.Files.state new.files.now)))
-    c.open.ensures.frame.told c.in-Ok.ensures.opens made.nothing_taken c.in-Ok-read_sum_script.ensures.in_limit c.in-Ok-read_sum_script.ensures.limit (rw made.same at c.in-Ok-read_sum_script.ensures.step)
+    let made = c.in-Ok.ensures in
+    script_read old.told opened.told opened.reading c.args.name.now c.in-Ok-read_sum_script.table c.in-Ok.input.taken new.taken (ahead_of new.taken (left (g.F.Files.state new.files.now)))
+    c.open.ensures.frame.told c.in_ok-open.ensures.opens made.nothing_taken c.in-Ok-read_sum_script.ensures.in_limit c.in-Ok-read_sum_script.ensures.limit (rw made.same at c.in-Ok-read_sum_script.ensures.step)
 
 pub returns-in-Err-Form-clause-reads : goal.returns-in-Err-Form-clause-reads
 returns-in-Err-Form-clause-reads g c =
     let old = g.F.Files.state c.args.files.now in
     let opened = g.F.Files.state c.open.new.files in
     let new = c.read_sum_script.new.input in
-    let made = c.in-Ok-new.ensures in
-    script_refused old.told opened.told opened.reading c.args.name.now c.in-Ok-new.input.taken new.taken (ahead_of new.taken (left (g.F.Files.state new.files.now)))
-    c.open.ensures.frame.told c.in-Ok.ensures.opens made.nothing_taken (rw (made.same, c.in-Err-Form.field-0-is) at c.in-Err-Form.ensures.step)
+    let made = c.in-Ok.ensures in
+    script_refused old.told opened.told opened.reading c.args.name.now c.in-Ok.input.taken new.taken (ahead_of new.taken (left (g.F.Files.state new.files.now)))
+    c.open.ensures.frame.told c.in_ok-open.ensures.opens made.nothing_taken (rw (made.same, c.in-Err-Form.field-0-is) at c.in-Err-Form.ensures.step)
