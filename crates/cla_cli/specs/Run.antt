@@ -63,9 +63,21 @@ LineComes o err err' before after WriteFault = err' ≡ err
 LineComes o err err' before after (BadScript place kind) = err' ≡ err
 LineComes o err err' before after (BadFile fault) = err' ≡ err
 
--- the line, where the files tell
+-- nothing is put on standard error but an operator's fault
+abbrev pub IsQuiet : Option (List ℕ) → Option (List ℕ) → Status → Type 0
+IsQuiet err err' Memory = Unit {0}
+IsQuiet err err' (Operator place fault) = Unit {0}
+IsQuiet err err' Done = err' ≡ err
+IsQuiet err err' Usage = err' ≡ err
+IsQuiet err err' Missing = err' ≡ err
+IsQuiet err err' ReadFault = err' ≡ err
+IsQuiet err err' WriteFault = err' ≡ err
+IsQuiet err err' (BadScript place kind) = err' ≡ err
+IsQuiet err err' (BadFile fault) = err' ≡ err
+
+-- the line of the outcome where the files tell; elsewhere no line but an operator's
 abbrev pub HasRefusalLine : ℕ → Option Told → List (List ℕ) → Option (List ℕ) → Option (List ℕ) → ℕ → ℕ → Status → Type 0
-HasRefusalLine bits None words err err' before after status = Unit {0}
+HasRefusalLine bits None words err err' before after status = IsQuiet err err' status
 HasRefusalLine bits (Some told) words err err' before after status = LineComes (outcome_of bits words told) err err' before after status
 
 -- the causes that show in counts, whether anything is told or not
