@@ -29,9 +29,8 @@ pub(crate) fn read_script<F: Files>(
     ensures reads { ReadsScript (F.state files.old).told name.now result }
 {
     open(files, name)?;
-    let mut input = match Input::new(alloc, files, SCRIPT_BYTES) {
-        Ok(input) => input,
-        Err(_) => return Err(Stopped::Memory),
+    let Ok(mut input) = Input::new(alloc, files, SCRIPT_BYTES) else {
+        return Err(Stopped::Memory);
     };
     match read_sum_script(alloc, &mut input) {
         Ok(table) => Ok(table),
@@ -53,9 +52,8 @@ pub(crate) fn read_table<N: Number, F: Files>(
     ensures reads { ReadsTable N.BITS (F.state files.old).told name.now result }
 {
     open(files, name)?;
-    let mut input = match Input::new(alloc, files, TABLE_BYTES) {
-        Ok(input) => input,
-        Err(_) => return Err(Stopped::Memory),
+    let Ok(mut input) = Input::new(alloc, files, TABLE_BYTES) else {
+        return Err(Stopped::Memory);
     };
     match read_mtx(alloc, &mut input) {
         Ok(m) => Ok(m),

@@ -46,9 +46,8 @@ pub fn run<N: Number, F: Files, O: Sink, E: Sink>(
     ensures err_steady { E.steady err.new ≡ E.steady err.old }
     ensures err_kept { E.kept err.old err.new }
 {
-    let script = match accepted(words) {
-        Some(script) => script,
-        None => return Status::Usage,
+    let Some(script) = accepted(words) else {
+        return Status::Usage;
     };
     let m: Dense<N> = match read(alloc, files, script) {
         Ok(m) => m,
