@@ -79,6 +79,15 @@ fn ran<N: Number>(alloc: Global, words: &[&str], world: &World) -> Result<Came, 
 }
 
 #[test]
+fn ample_memory_is_done(rt: HostRuntime) -> Result<(), Fail> {
+    let came = ran::<Int<47>>(rt.alloc(), &["run", "s"], &World::of(SCRIPT, SQUARE))?;
+    assert_eq!(rt; came.code, 0);
+    assert_eq!(rt; came.out.as_slice(), b"10\n".as_slice());
+    assert!(rt; came.err.is_empty());
+    Ok(())
+}
+
+#[test]
 fn worked_examples(rt: HostRuntime) -> Result<(), Fail> {
     let two = "%%MatrixMarket matrix array integer general\n2 1\n140737488355327\n1\n";
     let three =
@@ -200,7 +209,7 @@ fn missing_files_and_failing_calls(rt: HostRuntime) -> Result<(), Fail> {
         failing_write: None,
     };
     assert_eq!(rt; ran::<Int<47>>(rt.alloc(), &["run", "s"], &none)?.code, 3);
-    // A run opens both files, reads each until a read gives nothing twice, and writes once.
+    // A run opens both files, reads each in one call and meets its end in two more, and writes once.
     for (kind, n, status) in [
         (CallKind::BeginRead, 1, 4),
         (CallKind::BeginRead, 2, 4),
