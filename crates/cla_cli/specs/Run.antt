@@ -1,5 +1,5 @@
 -- The clauses of the top call.
-use Rattle.std.specs.Prelude.{◌≡◌, ℕ, List, take, Option, Some, None, IsSome, ◌⊎◌}
+use Rattle.std.specs.Prelude.{◌≡◌, ℕ, ℤ, List, take, Option, Some, None, IsSome, ◌⊎◌}
 use Rattle.cla_spec.specs.Files.{Told}
 use Rattle.cla_spec.specs.Effects.{World, applied, IsFront, grown}
 use Rattle.cla_io.specs.State.{State}
@@ -7,6 +7,7 @@ use Rattle.cla_io.specs.Counts.{Rose}
 use Rattle.cla_cli.specs.declared.status.Status.{Status}
 use Rattle.cla_cli.specs.declared.status.Status.TheVariants.{Done, Memory, Usage, Missing, ReadFault, WriteFault, BadScript, BadFile, Operator}
 use Rattle.cla_cli.specs.Words.{accepted_command}
+use Rattle.cla_cli.specs.Texts.{number_line}
 use Rattle.cla_cli.specs.Outcome.{Outcome, outcome_of}
 
 -- A status is that of the outcome, unless memory is wanting, or something outside failed: a fault of reading comes only
@@ -41,9 +42,21 @@ EffectsDone o w v (BadScript place kind) = v ≡ applied o.effects w
 EffectsDone o w v (BadFile fault) = v ≡ applied o.effects w
 EffectsDone o w v (Operator place fault) = v ≡ applied o.effects w
 
--- the effects, where the files tell; the output grows where it tells
+-- what can be said of the output where the files don't tell: a number's line at Done, and nothing where a check refuses
+abbrev pub OutComes : Option (List ℕ) → Option (List ℕ) → Status → Type 0
+OutComes out out' Memory = Unit {0}
+OutComes out out' WriteFault = Unit {0}
+OutComes out out' Done = (v : ℤ) × (out' ≡ grown out (number_line v))
+OutComes out out' Usage = out' ≡ out
+OutComes out out' Missing = out' ≡ out
+OutComes out out' ReadFault = out' ≡ out
+OutComes out out' (BadScript place kind) = out' ≡ out
+OutComes out out' (BadFile fault) = out' ≡ out
+OutComes out out' (Operator place fault) = out' ≡ out
+
+-- the effects where the files tell; the output grows where it tells
 abbrev pub HasEffects : ℕ → Option Told → Option Told → List (List ℕ) → Option (List ℕ) → Option (List ℕ) → Status → Type 0
-HasEffects bits None told' words out out' status = told' ≡ None
+HasEffects bits None told' words out out' status = (told' ≡ None) × OutComes out out' status
 HasEffects bits (Some told) None words out out' status = ⊥
 HasEffects bits (Some told) (Some told') words out out' status = EffectsDone (outcome_of bits words told) (record { told = told; out = out }) (record { told = told'; out = out' }) status
 
@@ -51,34 +64,23 @@ HasEffects bits (Some told) (Some told') words out out' status = EffectsDone (ou
 abbrev pub HasLine : List ℕ → Option (List ℕ) → Option (List ℕ) → ℕ → ℕ → Type 0
 HasLine line err err' before after = (err' ≡ grown err line) ⊎ (Rose before after × ((n : ℕ) × (err' ≡ grown err (take n line))))
 
--- An operator's fault is told on standard error. With every other status nothing is; with want of memory nothing is said.
-abbrev pub LineComes : Outcome → Option (List ℕ) → Option (List ℕ) → ℕ → ℕ → Status → Type 0
-LineComes o err err' before after Memory = Unit {0}
-LineComes o err err' before after (Operator place fault) = HasLine o.line err err' before after
-LineComes o err err' before after Done = err' ≡ err
-LineComes o err err' before after Usage = err' ≡ err
-LineComes o err err' before after Missing = err' ≡ err
-LineComes o err err' before after ReadFault = err' ≡ err
-LineComes o err err' before after WriteFault = err' ≡ err
-LineComes o err err' before after (BadScript place kind) = err' ≡ err
-LineComes o err err' before after (BadFile fault) = err' ≡ err
-
--- nothing is put on standard error but an operator's fault
-abbrev pub IsQuiet : Option (List ℕ) → Option (List ℕ) → Status → Type 0
-IsQuiet err err' Memory = Unit {0}
-IsQuiet err err' (Operator place fault) = Unit {0}
-IsQuiet err err' Done = err' ≡ err
-IsQuiet err err' Usage = err' ≡ err
-IsQuiet err err' Missing = err' ≡ err
-IsQuiet err err' ReadFault = err' ≡ err
-IsQuiet err err' WriteFault = err' ≡ err
-IsQuiet err err' (BadScript place kind) = err' ≡ err
-IsQuiet err err' (BadFile fault) = err' ≡ err
+-- What an operator's fault leaves on standard error is `Line`. With every other status nothing is put there; with want of
+-- memory nothing is said.
+abbrev pub LineComes : Type 0 → Option (List ℕ) → Option (List ℕ) → Status → Type 0
+LineComes Line err err' Memory = Unit {0}
+LineComes Line err err' (Operator place fault) = Line
+LineComes Line err err' Done = err' ≡ err
+LineComes Line err err' Usage = err' ≡ err
+LineComes Line err err' Missing = err' ≡ err
+LineComes Line err err' ReadFault = err' ≡ err
+LineComes Line err err' WriteFault = err' ≡ err
+LineComes Line err err' (BadScript place kind) = err' ≡ err
+LineComes Line err err' (BadFile fault) = err' ≡ err
 
 -- the line of the outcome where the files tell; elsewhere no line but an operator's
 abbrev pub HasRefusalLine : ℕ → Option Told → List (List ℕ) → Option (List ℕ) → Option (List ℕ) → ℕ → ℕ → Status → Type 0
-HasRefusalLine bits None words err err' before after status = IsQuiet err err' status
-HasRefusalLine bits (Some told) words err err' before after status = LineComes (outcome_of bits words told) err err' before after status
+HasRefusalLine bits None words err err' before after status = LineComes (Unit {0}) err err' status
+HasRefusalLine bits (Some told) words err err' before after status = LineComes (HasLine (outcome_of bits words told).line err err' before after) err err' status
 
 -- the causes that show in counts, whether anything is told or not
 abbrev pub HasCauses : State → State → ℕ → ℕ → Status → Type 0
