@@ -31,6 +31,7 @@ struct World<'a> {
     table: Option<&'a str>,
     failing: Option<(CallKind, u64)>,
     failing_write: Option<u64>,
+    failing_line: Option<u64>,
 }
 
 impl<'a> World<'a> {
@@ -40,6 +41,7 @@ impl<'a> World<'a> {
             table: Some(table),
             failing: None,
             failing_write: None,
+            failing_line: None,
         }
     }
 }
@@ -66,9 +68,13 @@ fn ran<N: Number>(alloc: Global, words: &[&str], world: &World) -> Result<Came, 
     if let Some(call) = world.failing_write {
         fail_out.push(call)?;
     }
+    let mut fail_err = Vec::new(alloc);
+    if let Some(call) = world.failing_line {
+        fail_err.push(call)?;
+    }
     let mut files = MemFiles::new(files, fail);
     let mut out = MemSink::new(fail_out);
-    let mut err = MemSink::new(Vec::new(alloc));
+    let mut err = MemSink::new(fail_err);
     let mut meter = Meter::new();
     let status = run::<N, _, _, _>(alloc, &held, &mut files, &mut out, &mut err, &mut meter);
     Ok(Came {
@@ -170,6 +176,7 @@ fn hostile_tables(rt: HostRuntime) -> Result<(), Fail> {
         ("", 7),
         ("\n", 7),
         ("1 1\n", 7),
+        ("2 1\n1\n", 7),
         ("1 1\n1\n2\n", 7),
         ("1 1\n1\n\n", 7),
         ("1 1\n01\n", 7),
@@ -182,7 +189,7 @@ fn hostile_tables(rt: HostRuntime) -> Result<(), Fail> {
         ("01 1\n1\n", 7),
         ("0 1\n", 7),
         ("1 1 1\n1\n", 7),
-        ("8192 8193\n", 7),
+        ("67108865 1\n", 7),
         ("2147483648 1\n", 7),
         ("1\n1\n", 7),
     ] {
@@ -207,6 +214,7 @@ fn missing_files_and_failing_calls(rt: HostRuntime) -> Result<(), Fail> {
         table: Some(SQUARE),
         failing: None,
         failing_write: None,
+        failing_line: None,
     };
     assert_eq!(rt; ran::<Int<47>>(rt.alloc(), &["run", "s"], &none)?.code, 3);
     // A run opens both files, reads each in one call and meets its end in two more, and writes once.
@@ -234,6 +242,20 @@ fn missing_files_and_failing_calls(rt: HostRuntime) -> Result<(), Fail> {
         let came = ran::<Int<47>>(rt.alloc(), &["run", "s"], &world)?;
         assert_eq!(rt; came.code, status, "at write {n}");
         assert_eq!(rt; came.out.is_empty(), status != 0, "at write {n}");
+    }
+    Ok(())
+}
+
+#[test]
+fn a_line_that_cannot_be_written(rt: HostRuntime) -> Result<(), Fail> {
+    let wide = "%%MatrixMarket matrix array integer general\n2 1\n140737488355327\n1\n";
+    for (n, told) in [(1, false), (2, true)] {
+        let mut world = World::of(SCRIPT, wide);
+        world.failing_line = Some(n);
+        let came = ran::<Int<47>>(rt.alloc(), &["run", "s"], &world)?;
+        assert_eq!(rt; came.code, 9, "at line {n}");
+        assert!(rt; came.out.is_empty(), "at line {n}");
+        assert_eq!(rt; !came.err.is_empty(), told, "at line {n}");
     }
     Ok(())
 }
