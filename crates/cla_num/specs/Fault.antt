@@ -1,6 +1,7 @@
 -- The first fault of an operator.
-use Rattle.std.specs.Prelude.{ℕ, ℤ, ◌+◌, ◌/◌, ◌%◌, List, [], ◌∷◌, Option, Some, None, if◌then◌else◌}
+use Rattle.std.specs.Prelude.{◌≡◌, ℕ, ℤ, ◌+◌, ◌/◌, ◌%◌, List, [], ◌∷◌, Option, Some, None, Result, MatchResult, if◌then◌else◌}
 use Rattle.cla_spec.specs.Numbers.{in_range}
+use Rattle.cla_spec.specs.Matrix.{row_by_row}
 use Rattle.cla_num.specs.declared.fault.What.{What}
 use Rattle.cla_num.specs.declared.fault.What.TheVariants.{Range, Zero}
 use Rattle.cla_num.specs.declared.fault.OpFault.{OpFault}
@@ -27,6 +28,18 @@ first_fault_from bits cols place (cell ∷ cells) = or_else (first_fault_from bi
 abbrev pub first_fault : ℕ → ℕ → List (Option ℤ) → Option OpFault
 first_fault bits cols cells = first_fault_from bits cols 0 cells
 
+-- the first faulty cell of a result of this shape with these exact entries, row by row
+abbrev pub fault_of : ℕ → ℕ → ℕ → (ℕ → ℕ → Option ℤ) → Option OpFault
+fault_of bits rows cols exact = first_fault bits cols (row_by_row rows cols exact)
+
 -- the fault of a result that is one number
 abbrev pub scalar_fault : ℕ → Option ℤ → Option OpFault
 scalar_fault bits cell = first_fault bits 1 (cell ∷ [])
+
+-- the exact cells of entries that have no divisor
+abbrev pub exactly : (ℕ → ℕ → ℤ) → ℕ → ℕ → Option ℤ
+exactly entry i j = Some (entry i j)
+
+-- the number of an exact value, or its fault
+abbrev pub AnswersNumber : {N : Type 0} → ℕ → (N → ℤ) → ℤ → Result N OpFault → Type 0
+AnswersNumber bits value exact result = MatchResult result (λ n. (value n ≡ exact) × (scalar_fault bits (Some exact) ≡ None)) (λ fault. scalar_fault bits (Some exact) ≡ Some fault)

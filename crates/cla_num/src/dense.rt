@@ -66,3 +66,13 @@ impl<N: Number> Dense<N> {
         &self.cells
     }
 }
+
+/// The cells, row by row, in the memory that the matrix had.
+impl<N: Number> From<Dense<N>> for Vec<N> {
+    fn from(m: Dense<N>) -> Vec<N>
+        ensures cells { map N.value result.items ≡ m.cells }
+        ensures shape { IsShaped m.rows m.cols result.items }
+    {
+        m.cells
+    }
+}

@@ -19,6 +19,10 @@ impl<T: Drop> From<AllocFailed<T>> for Memory {
     }
 }
 
+/// A division by zero.
+#[derive(Clone, Copy, Debug, PartialEq, Eq)]
+pub struct ZeroDivisor;
+
 /// What is wrong with one cell of a result: its exact value isn't in range, or its divisor is 0.
 #[derive(Clone, Copy, Debug, PartialEq, Eq)]
 pub enum What {
@@ -34,4 +38,11 @@ pub struct OpFault {
     pub row: u32,
     pub col: u32,
     pub what: What,
+}
+
+/// Why a kernel gives no result: an operator's fault, or want of memory.
+#[derive(Clone, Copy, Debug, PartialEq, Eq)]
+pub enum Refused {
+    Op(OpFault),
+    Memory,
 }

@@ -3,6 +3,9 @@
 ghost use Rattle.std.specs.Prelude.{◌≡◌};
 ghost use Rattle.cla_spec.specs.Numbers.{InRange};
 
+use crate::cell_op::CellOp;
+use crate::fault::ZeroDivisor;
+use crate::meter::Meter;
 use crate::number::{GREATEST_BITS, Number};
 use crate::wide::{Wide, put_decimal};
 
@@ -42,6 +45,19 @@ impl<const B: u32> Number for Int<B> {
             })
         } else {
             None
+        }
+    }
+
+    fn times(self, w: Wide, meter: &mut Meter) -> Wide {
+        meter.count_mult();
+        Wide::from_i128(self.value as i128 * w.as_i128())
+    }
+
+    fn apply(op: CellOp, a: Self, b: Self, meter: &mut Meter) -> Result<Wide, ZeroDivisor> {
+        meter.count_map();
+        match op {
+            CellOp::Mul => Ok(Wide::from_i128(a.value as i128 * b.value as i128)),
+            _ => unreachable!("today only products are asked for"),
         }
     }
 

@@ -1,6 +1,7 @@
 //! Numbers of a bounded range, exact sums, the meter of counted operations, dense matrices and names.
 #![tactic(auto)]
 
+mod cell_op;
 mod dense;
 mod fault;
 mod int;
@@ -11,8 +12,9 @@ mod number;
 mod tests;
 mod wide;
 
+pub use cell_op::CellOp;
 pub use dense::Dense;
-pub use fault::{Memory, OpFault, What};
+pub use fault::{Memory, OpFault, Refused, What, ZeroDivisor};
 pub use int::Int;
 pub use meter::Meter;
 pub use name::Name;

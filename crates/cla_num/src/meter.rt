@@ -1,7 +1,7 @@
 //! The meter of counted operations.
 
-ghost use Rattle.std.specs.Prelude.{◌≡◌};
-ghost use Rattle.cla_num.specs.Counts.{zero_counts};
+ghost use Rattle.std.specs.Prelude.{◌≡◌, ◌+◌};
+ghost use Rattle.cla_num.specs.Counts.{zero_counts, AreBelow, operation_bound};
 
 use std::marker::Model;
 
@@ -40,5 +40,21 @@ impl Meter {
         ensures { result ≡ self.now.maps }
     {
         self.maps
+    }
+
+    // One more multiplication. `Number::times` alone calls this.
+    pub(crate) fn count_mult(&mut self)
+        requires { AreBelow operation_bound self.old }
+        ensures { self.new ≡ record self.old { mults = self.old.mults + 1 } }
+    {
+        self.mults += 1;
+    }
+
+    // One more map evaluation. `Number::apply` alone calls this.
+    pub(crate) fn count_map(&mut self)
+        requires { AreBelow operation_bound self.old }
+        ensures { self.new ≡ record self.old { maps = self.old.maps + 1 } }
+    {
+        self.maps += 1;
     }
 }

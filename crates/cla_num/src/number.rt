@@ -1,10 +1,16 @@
 //! Numbers of a bounded range.
 
-ghost use Rattle.std.specs.Prelude.{◌≡◌, ℕ, ℤ, ◌≤◌, take, length, IfSome, IsSome, ◌↔◌};
+ghost use Rattle.std.specs.Prelude.{◌≡◌, ℕ, ℤ, ◌≤◌, ◌+◌, ◌*ℤ◌, take, length, IfSome, IsSome, MatchResult, ◌↔◌};
+ghost use Rattle.std.specs.Int.{w128};
+ghost use Rattle.std.specs.Int.RustNames.{FitsSigned};
 ghost use Rattle.std.specs.Ordering.{int_cmp, int_eq};
 ghost use Rattle.cla_spec.specs.Numbers.{InRange, decimal_of};
 ghost use Rattle.cla_num.specs.Bits.{IsSupported};
+ghost use Rattle.cla_num.specs.Counts.{AreBelow, operation_bound};
 
+use crate::cell_op::CellOp;
+use crate::fault::ZeroDivisor;
+use crate::meter::Meter;
 use crate::wide::Wide;
 use std::hash::Hash;
 
@@ -37,6 +43,21 @@ pub trait Number: Copy + Ord + Eq + Hash {
         requires { IsSupported BITS }
         ensures value { IfSome result (λ n. value n ≡ w) }
         ensures cause { IsSome result ↔ InRange BITS w };
+
+    /// The exact product, which has to fit 128 bits. It counts as one multiplication.
+    fn times(self, w: Wide, meter: &mut Meter) -> Wide
+        requires fits { FitsSigned w128 (value self *ℤ w) }
+        requires room { AreBelow operation_bound meter.old }
+        ensures product { result ≡ value self *ℤ w }
+        ensures counts { meter.new ≡ record meter.old { mults = meter.old.mults + 1 } };
+
+    /// The exact value of `a op b`. It counts as one map evaluation. Today the operator is `Mul`,
+    /// which no operands refuse.
+    fn apply(op: CellOp, a: Self, b: Self, meter: &mut Meter) -> Result<Wide, ZeroDivisor>
+        requires built { op ≡ CellOp.Mul }
+        requires room { AreBelow operation_bound meter.old }
+        ensures value { MatchResult result (λ w. w ≡ value a *ℤ value b) (λ e. ⊥) }
+        ensures counts { meter.new ≡ record meter.old { maps = meter.old.maps + 1 } };
 
     /// Puts the decimal text into the first bytes of `into`, and gives its length.
     fn put(self, into: &mut [u8; 40]) -> usize

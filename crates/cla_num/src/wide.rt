@@ -36,6 +36,13 @@ impl Wide {
         Wide { value: 0 }
     }
 
+    /// The number n, as of rows or cells that were counted.
+    pub fn count(n: u32) -> Wide
+        ensures { result ≡ pos n }
+    {
+        Wide { value: n as i128 }
+    }
+
     /// The exact sum, which has to fit 128 bits.
     pub fn plus(self, other: Wide) -> Wide
         requires { FitsSigned w128 (self +ℤ other) }
@@ -59,6 +66,12 @@ impl Wide {
         ensures { result ≡ v }
     {
         Wide { value: v as i128 }
+    }
+
+    pub(crate) fn from_i128(v: i128) -> Wide
+        ensures { result ≡ v }
+    {
+        Wide { value: v }
     }
 
     pub(crate) fn as_i128(self) -> i128

@@ -4,3 +4,4 @@ pub mod Decimals
 pub mod ArrayFileLaws
 pub mod SumScriptLaws
 pub mod Sums
+pub mod Entries

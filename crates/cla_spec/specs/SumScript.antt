@@ -1,6 +1,9 @@
--- Sum scripts: the scripts that run today. They read one table and print the sum of its entries.
-use Rattle.std.specs.Prelude.{◌≡◌, ℕ, ◌-◌, ◌≤◌, List, [], ◌∷◌, ◌++◌, length, take, drop, codes, Option, Some, None, Bool, ◌&&◌, ◌==◌, true, not, nat_le, ◌↔◌, if◌then◌else◌}
+-- Sum scripts: the scripts that run today. They read one table and print the sum of its entries, or of its entries times
+-- a number.
+use Rattle.std.specs.Prelude.{◌≡◌, ℕ, pos, ◌-◌, ◌≤◌, List, [], ◌∷◌, ◌++◌, length, take, drop, codes, Option, Some, None, Bool, ◌&&◌, ◌==◌, true, not, nat_le, ◌↔◌, if◌then◌else◌}
 use Rattle.std.specs.List.{list_all}
+use Rattle.std.specs.Str.Parse.{digits_value}
+use Rattle.cla_spec.specs.Numbers.{in_range, decimal_of}
 use Rattle.cla_spec.specs.Lines.{lines_of}
 use Rattle.cla_spec.specs.ArrayFile.{same_lines}
 
@@ -12,27 +15,50 @@ is_text_byte b = nat_le 32 b && nat_le b 126 && not (b == 34)
 abbrev pub is_text : List ℕ → Bool
 is_text name = nat_le 1 (length name) && nat_le (length name) 255 && list_all is_text_byte name
 
-abbrev pub script_lines : List ℕ → List (List ℕ)
-script_lines name = (codes "X = read(" ++ 34 ∷ name ++ 34 ∷ codes ")") ∷ codes "print(sum(X))" ∷ []
+-- the table that is read, and the number that its entries are multiplied by, if there is one
+pub record SumScript : Type 0 where
+  pub table : List ℕ
+  pub factor : Option ℕ
 
--- a text of at most `limit` bytes is the sum script of the table with this name
-pub record IsSumScript (limit : ℕ) (text name : List ℕ) : Type 0 where
-  pub named : is_text name ≡ true
+abbrev pub read_line : List ℕ → List ℕ
+read_line name = codes "X = read(" ++ 34 ∷ name ++ 34 ∷ codes ")"
+
+abbrev pub print_line : Option ℕ → List ℕ
+print_line None = codes "print(sum(X))"
+print_line (Some k) = codes "print(sum(X * " ++ decimal_of (pos k) ++ codes "))"
+
+abbrev pub script_lines : SumScript → List (List ℕ)
+script_lines script = read_line script.table ∷ print_line script.factor ∷ []
+
+-- a factor is a number in range
+abbrev pub is_factor : ℕ → Option ℕ → Bool
+is_factor bits None = true
+is_factor bits (Some k) = in_range bits (pos k)
+
+-- a text of at most `limit` bytes is this sum script
+pub record IsSumScript (bits limit : ℕ) (text : List ℕ) (script : SumScript) : Type 0 where
+  pub named : is_text script.table ≡ true
+  pub factored : is_factor bits script.factor ≡ true
   pub short : length text ≤ limit
-  pub lines : lines_of text ≡ script_lines name
+  pub lines : lines_of text ≡ script_lines script
 
--- the only name that a script of these lines can read
-abbrev pub name_in : List (List ℕ) → List ℕ
-name_in [] = []
-name_in (line ∷ lines) = take (length line - 12) (drop 10 line)
+-- the only factor that a line can print
+abbrev pub factor_in : List ℕ → Option ℕ
+factor_in line = if length line == 13 then None else Some (digits_value 10 (take (length line - 16) (drop 14 line)))
 
-abbrev pub is_sum_script : ℕ → List ℕ → List ℕ → Bool
-is_sum_script limit text name = is_text name && nat_le (length text) limit && same_lines (lines_of text) (script_lines name)
+-- the only sum script that can have these lines
+abbrev pub script_in : List (List ℕ) → SumScript
+script_in [] = record { table = []; factor = None }
+script_in (read ∷ []) = record { table = []; factor = None }
+script_in (read ∷ print ∷ rest) = record { table = take (length read - 12) (drop 10 read); factor = factor_in print }
 
--- the name of the table whose sum a script prints, if it is such a script
-unfoldable pub table_read_by : ℕ → List ℕ → Option (List ℕ)
-table_read_by limit text = let name = name_in (lines_of text) in if is_sum_script limit text name then Some name else None
+abbrev pub is_sum_script : ℕ → ℕ → List ℕ → SumScript → Bool
+is_sum_script bits limit text script = is_text script.table && is_factor bits script.factor && nat_le (length text) limit && same_lines (lines_of text) (script_lines script)
 
--- a sum script reads one table, whose name table_read_by finds
+-- the sum script that a text is, if it is one
+unfoldable pub sum_script_in : ℕ → ℕ → List ℕ → Option SumScript
+sum_script_in bits limit text = let script = script_in (lines_of text) in if is_sum_script bits limit text script then Some script else None
+
+-- a text is one sum script at most, which sum_script_in finds
 abbrev pub SumScriptsAreFound : Type 0
-SumScriptsAreFound = (limit : ℕ) (text name : List ℕ) → (table_read_by limit text ≡ Some name) ↔ IsSumScript limit text name
+SumScriptsAreFound = (bits limit : ℕ) (text : List ℕ) (script : SumScript) → bits ≤ 63 → (sum_script_in bits limit text ≡ Some script) ↔ IsSumScript bits limit text script

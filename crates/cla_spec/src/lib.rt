@@ -10,7 +10,7 @@ pub fn array_files_are_found()
     ensures { ArrayFilesAreFound }
 {}
 
-/// A sum script reads one table, and `table_read_by` finds its name exactly where a text is one.
+/// A text is one sum script at most, and `sum_script_in` finds it exactly where there is one.
 pub fn sum_scripts_are_found()
     ensures { SumScriptsAreFound }
 {}
