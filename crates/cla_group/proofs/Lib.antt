@@ -1,0 +1,16 @@
+pub mod Tuples
+pub mod Bounds
+pub mod Gathered
+pub mod Regroup
+pub mod Cells
+pub mod Counting
+pub mod Projections
+pub mod Renamings
+pub mod Counts
+pub mod Coded
+pub mod Listings
+pub mod Rests
+pub mod RunRows
+pub mod RunsMade
+pub mod RunWalks
+pub mod RunCodes

@@ -1,0 +1,9 @@
+pub mod Groups
+pub mod Tuples
+pub mod Rows
+pub mod Laws
+pub mod Renaming
+pub mod Counted
+pub mod Listed
+pub mod Runs
+pub mod RunLists

@@ -1,0 +1,54 @@
+-- Rows that are listed by code (PVLDB 9(12), section 3: offset lists and run lengths). One tuple may have no list, the rest.
+use Rattle.std.specs.Prelude.{ℕ, ℤ, pos, ◌+◌, ◌-◌, List, length, map, filter, Option, Some, None, Bool, false, ◌==◌, ◌&&◌, ◌||◌, not, nat_lt, if◌then◌else◌}
+use Rattle.std.specs.List.{range_with_len, position_or_len, list_all}
+use Rattle.std.specs.Ordering.{int_eq}
+use Rattle.cla_group.specs.Groups.{code_of}
+
+-- a tuple of zeros
+abbrev pub is_zero : List ℤ → Bool
+is_zero tuple = list_all (λ v. int_eq v (pos 0)) tuple
+
+-- the rest of a group, which is the tuple without a list: today the first one of zeros, if there is one
+abbrev pub rest_of : List ℕ → List (List ℤ) → Option ℕ
+rest_of codes tuples = let k = position_or_len is_zero tuples in if nat_lt k (length tuples) then Some k else None
+
+-- whether code k has no list
+abbrev pub is_rest : Option ℕ → ℕ → Bool
+is_rest None k = false
+is_rest (Some rest) k = k == rest
+
+-- the rows that pass a test, in rising order
+abbrev pub rows_where : (ℕ → Bool) → ℕ → List ℕ
+rows_where test rows = filter test (range_with_len 0 rows)
+
+-- the rows that have code k
+abbrev pub rows_of : List ℕ → ℕ → List ℕ
+rows_of codes k = rows_where (λ i. code_of codes i == k) (length codes)
+
+-- a run of code k begins at a row that has it where the row before hasn't, and ends with a row that has it where the next
+-- hasn't
+abbrev pub begins_run : List ℕ → ℕ → ℕ → Bool
+begins_run codes k i = code_of codes i == k && (i == 0 || not (code_of codes (i - 1) == k))
+
+abbrev pub ends_run : List ℕ → ℕ → ℕ → Bool
+ends_run codes k i = code_of codes i == k && (i + 1 == length codes || not (code_of codes (i + 1) == k))
+
+-- the first rows of the maximal runs of code k, and their last rows, in rising order
+abbrev pub run_begins : List ℕ → ℕ → List ℕ
+run_begins codes k = rows_where (begins_run codes k) (length codes)
+
+abbrev pub run_lasts : List ℕ → ℕ → List ℕ
+run_lasts codes k = rows_where (ends_run codes k) (length codes)
+
+-- the code of the rest; past all codes where there is none
+abbrev pub rest_or : ℕ → Option ℕ → ℕ
+rest_or tuples None = tuples
+rest_or tuples (Some rest) = rest
+
+-- The codes of rows that are listed: `has k i` says that row i is listed under code k. A row in no list has the code of the
+-- rest.
+abbrev pub code_listed : (ℕ → ℕ → Bool) → ℕ → Option ℕ → ℕ → ℕ
+code_listed has tuples rest i = let k = position_or_len (λ k. has k i) (range_with_len 0 tuples) in if nat_lt k tuples then k else rest_or tuples rest
+
+abbrev pub codes_listed : (ℕ → ℕ → Bool) → ℕ → ℕ → Option ℕ → List ℕ
+codes_listed has rows tuples rest = map (code_listed has tuples rest) (range_with_len 0 rows)

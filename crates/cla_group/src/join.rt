@@ -1,0 +1,71 @@
+//! How a part is joined with what a row has.
+
+ghost use Rattle.std.specs.Prelude.{◌≡◌, ◌<◌, ◌+ℤ◌, ℕ, ℤ, length};
+ghost use Rattle.std.specs.Int.{w128, int_min, int_max};
+ghost use Rattle.std.specs.Int.RustNames.{FitsSigned};
+ghost use Rattle.cla_group.specs.Groups.{at};
+
+use cla_num::Wide;
+
+/// A way to join two integers, so that one walk over rows serves sums, least and greatest values.
+pub trait Join {
+    /// The two joined.
+    ghost join: { ℤ → ℤ → ℤ };
+
+    /// Whether the two may be joined.
+    ghost can_join: { ℤ → ℤ → Type 0 };
+
+    /// The two joined.
+    fn joined(a: Wide, b: Wide) -> Wide
+        requires { can_join a b }
+        ensures { result ≡ join a b };
+}
+
+/// Joins two integers by their sum.
+pub struct Plus;
+
+/// Joins two integers by the lesser of them.
+pub struct Least;
+
+/// Joins two integers by the greater of them.
+pub struct Greatest;
+
+impl Join for Plus {
+    ghost join = { ◌+ℤ◌ };
+
+    ghost can_join = { λ a b. FitsSigned w128 (a +ℤ b) };
+
+    fn joined(a: Wide, b: Wide) -> Wide {
+        a.plus(b)
+    }
+}
+
+impl Join for Least {
+    ghost join = { int_min };
+
+    ghost can_join = { λ a b. Unit {0} };
+
+    fn joined(a: Wide, b: Wide) -> Wide {
+        a.min(b)
+    }
+}
+
+impl Join for Greatest {
+    ghost join = { int_max };
+
+    ghost can_join = { λ a b. Unit {0} };
+
+    fn joined(a: Wide, b: Wide) -> Wide {
+        a.max(b)
+    }
+}
+
+// Joins a part with each of these places.
+pub(crate) fn join_all<J: Join>(part: Wide, places: &mut [Wide])
+    requires fits { (i : ℕ) → i < length places.old → J.can_join (at places.old i) part }
+    ensures { (i : ℕ) → i < length places.old → at places.new i ≡ J.join (at places.old i) part }
+{
+    for place in places.iter_mut() {
+        *place = J::joined(*place, part);
+    }
+}

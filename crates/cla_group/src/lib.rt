@@ -1,0 +1,27 @@
+//! Groups of columns: the traits that every encoding meets, their laws, and what operators need to
+//! know of them.
+#![tactic(auto)]
+
+mod group;
+mod join;
+mod kind;
+mod laws;
+mod owned;
+mod projected;
+mod renaming;
+mod rest;
+mod row_counts;
+mod run_rows;
+
+pub use group::Group;
+pub use join::{Greatest, Join, Least, Plus};
+pub use kind::Kind;
+pub use laws::{
+    extremes_regroup, faults_regroup, first_places_regroup, sums_regroup, weighted_sums_regroup,
+};
+pub use owned::Owned;
+pub use projected::projected_values;
+pub use renaming::{Renaming, renamed, values_in_order};
+pub use rest::rest_tuple;
+pub use row_counts::{Occurrences, counted};
+pub use run_rows::{RunList, run_list, run_lists};
