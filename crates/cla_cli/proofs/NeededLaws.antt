@@ -4,10 +4,10 @@ use Rattle.std.specs.FinMap as fin
 use Rattle.cla_spec.specs.Files.{Told}
 use Rattle.cla_spec.specs.Matrix.{Matrix}
 use Rattle.cla_spec.specs.ArrayFile.{array_in}
-use Rattle.cla_spec.specs.SumScript.{table_read_by, IsSumScript}
+use Rattle.cla_spec.specs.SumScript.{SumScript, sum_script_in, IsSumScript}
 use Rattle.cla_spec.proofs.LineLemmas.{lines_of-empty}
 use Rattle.cla_spec.proofs.ArrayFileLaws.{array_in-sound, array_in-complete}
-use Rattle.cla_spec.proofs.SumScriptLaws.{table_read_by-sound, table_read_by-complete}
+use Rattle.cla_spec.proofs.SumScriptLaws.{sum_script_in-sound, sum_script_in-complete}
 use Rattle.cla_io.specs.State.{Reading, left_where_told}
 use Rattle.cla_io.specs.Lines.{Progress, ahead_of}
 use Rattle.cla_io.specs.Steps.{StepWhereTold}
@@ -32,36 +32,36 @@ none_of : {X : Type 0} (o : Option X) → ((x : X) → o ≡ Some x → ⊥) →
 none_of None h = refl
 none_of (Some x) h = absurd (h x refl)
 
-is_script : (text table : List ℕ) (q : Progress) (o2 : Option (List ℕ)) → q.at ≤ q.limit → q.limit ≡ script_limit → StepWhereTold Refuses TakesScript NeverScript (fresh script_limit) q (Some text) o2 (Ok table) → IsSumScript script_limit text table
-is_script text table q None within same h = absurd h
-is_script text table q (Some after) within same h =
+is_script : (bits : ℕ) (text : List ℕ) (script : SumScript) (q : Progress) (o2 : Option (List ℕ)) → q.at ≤ q.limit → q.limit ≡ script_limit → StepWhereTold Refuses (TakesScript bits) (NeverScript bits) (fresh script_limit) q (Some text) o2 (Ok script) → IsSumScript bits script_limit text script
+is_script bits text script q None within same h = absurd h
+is_script bits text script q (Some after) within same h =
     let none = lines_of-empty after h.0.1 in
-    record { named = h.0.2; short = omega (arith, h.1, within, same, ap (λ (xs : List ℕ). length xs) none); lines = h.0.0 }
+    record { named = h.0.2; factored = h.0.3; short = omega (arith, h.1, within, same, ap (λ (xs : List ℕ). length xs) none); lines = h.0.0 }
 
-isnt_script : (text : List ℕ) (q : Progress) (o2 : Option (List ℕ)) → StepWhereTold {T = List ℕ} Refuses TakesScript NeverScript (fresh script_limit) q (Some text) o2 (Err Form) → table_read_by script_limit text ≡ None
-isnt_script text q None h = absurd h
-isnt_script text q (Some after) h = none_of (table_read_by script_limit text) (λ name e.
-    let s = table_read_by-sound script_limit text name e in
-    h (omega (arith, s.short)) name s.named s.lines)
+isnt_script : (bits : ℕ) (text : List ℕ) (q : Progress) (o2 : Option (List ℕ)) → StepWhereTold {T = SumScript} Refuses (TakesScript bits) (NeverScript bits) (fresh script_limit) q (Some text) o2 (Err Form) → sum_script_in bits script_limit text ≡ None
+isnt_script bits text q None h = absurd h
+isnt_script bits text q (Some after) h = none_of (sum_script_in bits script_limit text) (λ script e.
+    let s = sum_script_in-sound bits script_limit text script e in
+    h (omega (arith, s.short)) script s.named s.factored s.lines)
 
 -- a script that was read
-pub script_read : (told told' : Option Told) (reading : Option Reading) (name table : List ℕ) (p q : Progress) (o2 : Option (List ℕ)) → told' ≡ told → OpensWhereTold {R = Unit {0}} told name reading (Ok tt) → p ≡ fresh script_limit
-    → q.at ≤ q.limit → q.limit ≡ p.limit → StepWhereTold Refuses TakesScript NeverScript p q (ahead_of p (left_where_told told' reading)) o2 (Ok table) → ReadsScript told name (Ok table)
-script_read None told' reading name table p q o2 same opens start within limit step = tt
-script_read (Some t) told' reading name table p q o2 same opens start within limit step =
+pub script_read : (bits : ℕ) (told told' : Option Told) (reading : Option Reading) (name : List ℕ) (script : SumScript) (p q : Progress) (o2 : Option (List ℕ)) → bits ≤ 63 → told' ≡ told → OpensWhereTold {R = Unit {0}} told name reading (Ok tt) → p ≡ fresh script_limit
+    → q.at ≤ q.limit → q.limit ≡ p.limit → StepWhereTold Refuses (TakesScript bits) (NeverScript bits) p q (ahead_of p (left_where_told told' reading)) o2 (Ok script) → ReadsScript bits told name (Ok script)
+script_read bits None told' reading name script p q o2 few same opens start within limit step = tt
+script_read bits (Some t) told' reading name script p q o2 few same opens start within limit step =
     let ahead = fresh_ahead t told' reading name opens.0 script_limit same opens.2 opens.1 in
     let here = rw (start, ahead) at step in
     let size : q.limit ≡ script_limit = limit ∙ ap (λ (x : Progress). x.limit) start in
-    (opens.0, opens.1, table_read_by-complete script_limit opens.0 table (is_script opens.0 table q o2 within size here))
+    (opens.0, opens.1, sum_script_in-complete bits script_limit opens.0 script few (is_script bits opens.0 script q o2 within size here))
 
 -- a script that was refused
-pub script_refused : (told told' : Option Told) (reading : Option Reading) (name : List ℕ) (p q : Progress) (o2 : Option (List ℕ)) → told' ≡ told → OpensWhereTold {R = Unit {0}} told name reading (Ok tt) → p ≡ fresh script_limit
-    → StepWhereTold {T = List ℕ} Refuses TakesScript NeverScript p q (ahead_of p (left_where_told told' reading)) o2 (Err Form) → ReadsScript told name (Err (Refused tt))
-script_refused None told' reading name p q o2 same opens start step = tt
-script_refused (Some t) told' reading name p q o2 same opens start step =
+pub script_refused : (bits : ℕ) (told told' : Option Told) (reading : Option Reading) (name : List ℕ) (p q : Progress) (o2 : Option (List ℕ)) → told' ≡ told → OpensWhereTold {R = Unit {0}} told name reading (Ok tt) → p ≡ fresh script_limit
+    → StepWhereTold {T = SumScript} Refuses (TakesScript bits) (NeverScript bits) p q (ahead_of p (left_where_told told' reading)) o2 (Err Form) → ReadsScript bits told name (Err (Refused tt))
+script_refused bits None told' reading name p q o2 same opens start step = tt
+script_refused bits (Some t) told' reading name p q o2 same opens start step =
     let ahead = fresh_ahead t told' reading name opens.0 script_limit same opens.2 opens.1 in
     let here = rw (start, ahead) at step in
-    (opens.0, opens.1, isnt_script opens.0 q o2 here)
+    (opens.0, opens.1, isnt_script bits opens.0 q o2 here)
 
 is_table : (bits : ℕ) (text : List ℕ) (m : Matrix) (o2 : Option (List ℕ)) → bits ≤ 63 → ReadsArrayFile bits table_limit (Some text) o2 (Ok m) → array_in bits table_limit text ≡ Some m
 is_table bits text m None few h = absurd h

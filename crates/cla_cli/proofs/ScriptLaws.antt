@@ -1,5 +1,5 @@
 -- What a script that is refused can't be.
-use Rattle.std.proofs.Common.{◌≡◌, ℕ, ◌+◌, ◌-◌, ◌<◌, List, [], ◌∷◌, ◌++◌, length, take, drop, true, refl, ap, sym, ◌∙◌, arith, length-append}
+use Rattle.std.proofs.Common.{◌≡◌, ℕ, ◌+◌, ◌-◌, ◌<◌, List, [], ◌∷◌, ◌++◌, length, take, drop, true, ap, sym, ◌∙◌, arith, length-append}
 use Rattle.std.specs.Prelude.{codes}
 use Rattle.std.specs.Str.{IsAscii}
 use Rattle.std.specs.List.{list_all}
@@ -8,12 +8,12 @@ use Rattle.std.proofs.lemmas.Bool.Decides.{nat_tests}
 use Rattle.std.proofs.lemmas.List.{take_at}
 use Rattle.std.proofs.Math.Seq.{drop-append_seam}
 use Rattle.std.proofs.lemmas.Str.Ascii.{IsAscii-nil, IsAscii-cons}
-use Rattle.cla_spec.specs.SumScript.{is_text, is_text_byte}
+use Rattle.cla_spec.specs.SumScript.{is_text, is_text_byte, read_line, print_line}
 use Rattle.cla_io.specs.Steps.{Lines}
 use Rattle.cla_io.proofs.StepLaws.{TellsOn}
 use Rattle.cla_cli.specs.declared.script.LineFault.{LineFault}
 use Rattle.cla_cli.specs.declared.script.LineFault.TheVariants.{Form, Read, Memory}
-use Rattle.cla_cli.specs.Script.{Refuses, read_line, NeverName, NeverScript}
+use Rattle.cla_cli.specs.Script.{Refuses, NeverName, NeverFactor, NeverScript}
 
 pub long_line : (line name : List ℕ) → line ≡ read_line name → length line ≡ length name + 12
 long_line line name e = ap (λ (l : List ℕ). length l) e ∙ omega (arith, length-append name (34 ∷ 41 ∷ []))
@@ -49,24 +49,22 @@ pub text_ascii : (name : List ℕ) → is_text name ≡ true → IsAscii name
 text_ascii name h = bytes_ascii name (and_parts _ _ h).1
 
 -- no sum script has a first line that is refused
-pub no_name : (before : Lines) → NeverName before → NeverScript before
-no_name before bad name named e = bad name (codes "print(sum(X))" ∷ []) named e
-
-same_line : (name other : List ℕ) → read_line name ≡ read_line other → name ≡ other
-same_line name other e = sym (name_of (read_line name) name refl) ∙ ap (λ (l : List ℕ). take (length (drop 10 l) - 2) (drop 10 l)) e ∙ name_of (read_line other) other refl
+pub no_name : (bits : ℕ) (before : Lines) → NeverName before → NeverScript bits before
+no_name bits before bad script named factored e = bad script.table (print_line script.factor ∷ []) named e
 
 -- nor a second line
-pub no_print : (before after : Lines) (name : List ℕ) → before ≡ read_line name ∷ after → ((rest : Lines) → after ≡ codes "print(sum(X))" ∷ rest → ⊥) → NeverScript before
-no_print before after name begins bad other named e =
-    let both : read_line name ∷ after ≡ read_line other ∷ codes "print(sum(X))" ∷ [] = sym begins ∙ e in
-    let second : after ≡ codes "print(sum(X))" ∷ [] = cc in
-    bad [] second
+pub no_print : (bits : ℕ) (before after : Lines) (name : List ℕ) → before ≡ read_line name ∷ after → NeverFactor bits after → NeverScript bits before
+no_print bits before after name begins bad other named factored e =
+    let both : read_line name ∷ after ≡ read_line other.table ∷ print_line other.factor ∷ [] = sym begins ∙ e in
+    let second : after ≡ print_line other.factor ∷ [] = cc in
+    bad other.factor [] factored second
 
 -- nor more lines
-pub no_end : (before middle after : Lines) (name : List ℕ) → before ≡ read_line name ∷ middle → middle ≡ codes "print(sum(X))" ∷ after → (after ≡ [] → ⊥) → NeverScript before
-no_end before middle after name begins second bad other named e =
-    let both : read_line name ∷ middle ≡ read_line other ∷ codes "print(sum(X))" ∷ [] = sym begins ∙ e in
-    let one : codes "print(sum(X))" ∷ after ≡ codes "print(sum(X))" ∷ [] = sym second ∙ cc in
+pub no_end : (bits : ℕ) (before middle after : Lines) (name line : List ℕ) → before ≡ read_line name ∷ middle → middle ≡ line ∷ after → (after ≡ [] → ⊥) → NeverScript bits before
+no_end bits before middle after name line begins second bad other named factored e =
+    let both : read_line name ∷ middle ≡ read_line other.table ∷ print_line other.factor ∷ [] = sym begins ∙ e in
+    let rest : middle ≡ print_line other.factor ∷ [] = cc in
+    let one : line ∷ after ≡ print_line other.factor ∷ [] = sym second ∙ rest in
     bad (cc)
 
 tells_on : (e : LineFault) (P Q : Type 0) → (P → Q) → Refuses e P → Refuses e Q

@@ -1,6 +1,9 @@
 pub mod Codes
+pub mod First
+pub mod Products
 pub mod Words
 pub mod Texts
+pub mod Factor
 pub mod Script
 pub mod Needed
 pub mod Outcome

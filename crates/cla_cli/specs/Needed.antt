@@ -4,7 +4,7 @@ use Rattle.std.specs.FinMap as fin
 use Rattle.cla_spec.specs.Files.{Told}
 use Rattle.cla_spec.specs.Matrix.{Matrix}
 use Rattle.cla_spec.specs.ArrayFile.{array_in}
-use Rattle.cla_spec.specs.SumScript.{table_read_by}
+use Rattle.cla_spec.specs.SumScript.{SumScript, sum_script_in}
 use Rattle.cla_io.specs.State.{State, Reading}
 use Rattle.cla_io.specs.Counts.{Rose}
 use Rattle.cla_mtx.specs.declared.fault.MtxFault.{MtxFault}
@@ -50,16 +50,16 @@ abbrev pub Opens : {R : Type 0} → List ℕ → State → State → Result (Uni
 Opens name old new result = OpensWhereTold old.told name new.reading result
 
 -- what reading a script answers, where the files tell
-abbrev pub ReadsScriptIn : Told → List ℕ → Result (List ℕ) (Stopped (Unit {0})) → Type 0
-ReadsScriptIn told name (Ok table) = (text : List ℕ) × (fin.get told name ≡ Some text) × (table_read_by script_limit text ≡ Some table)
-ReadsScriptIn told name (Err Missing) = fin.get told name ≡ None
-ReadsScriptIn told name (Err Fault) = Unit {0}
-ReadsScriptIn told name (Err Memory) = Unit {0}
-ReadsScriptIn told name (Err (Refused u)) = (text : List ℕ) × (fin.get told name ≡ Some text) × (table_read_by script_limit text ≡ None)
+abbrev pub ReadsScriptIn : ℕ → Told → List ℕ → Result SumScript (Stopped (Unit {0})) → Type 0
+ReadsScriptIn bits told name (Ok script) = (text : List ℕ) × (fin.get told name ≡ Some text) × (sum_script_in bits script_limit text ≡ Some script)
+ReadsScriptIn bits told name (Err Missing) = fin.get told name ≡ None
+ReadsScriptIn bits told name (Err Fault) = Unit {0}
+ReadsScriptIn bits told name (Err Memory) = Unit {0}
+ReadsScriptIn bits told name (Err (Refused u)) = (text : List ℕ) × (fin.get told name ≡ Some text) × (sum_script_in bits script_limit text ≡ None)
 
-abbrev pub ReadsScript : Option Told → List ℕ → Result (List ℕ) (Stopped (Unit {0})) → Type 0
-ReadsScript None name result = Unit {0}
-ReadsScript (Some told) name result = ReadsScriptIn told name result
+abbrev pub ReadsScript : ℕ → Option Told → List ℕ → Result SumScript (Stopped (Unit {0})) → Type 0
+ReadsScript bits None name result = Unit {0}
+ReadsScript bits (Some told) name result = ReadsScriptIn bits told name result
 
 -- what reading a table answers, where the files tell
 abbrev pub ReadsTableIn : ℕ → Told → List ℕ → Result Matrix (Stopped MtxFault) → Type 0

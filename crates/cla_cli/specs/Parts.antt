@@ -1,6 +1,7 @@
 -- What the parts of the top call do.
 use Rattle.std.specs.Prelude.{◌≡◌, ℕ, ℤ, List, take, Option, Some, None, Result, Ok, Err}
 use Rattle.std.specs.FinMap as fin
+use Rattle.std.specs.Option.{option_map}
 use Rattle.cla_spec.specs.Files.{Told}
 use Rattle.cla_spec.specs.Effects.{grown}
 use Rattle.cla_spec.specs.Matrix.{Matrix}
@@ -11,7 +12,9 @@ use Rattle.cla_cli.specs.declared.status.Place.{Place}
 use Rattle.cla_cli.specs.declared.status.Status.{Status}
 use Rattle.cla_cli.specs.declared.status.Status.TheVariants.{Done, Memory, Usage, Missing, ReadFault, WriteFault, BadScript, BadFile, Operator}
 use Rattle.cla_cli.specs.Texts.{number_line, operator_line}
-use Rattle.cla_cli.specs.Outcome.{refused, script_outcome, matrix_outcome}
+use Rattle.cla_cli.specs.declared.evaluate.Failed.{Failed}
+use Rattle.cla_cli.specs.declared.evaluate.Failed.TheVariants as failed
+use Rattle.cla_cli.specs.Outcome.{Outcome, refused, prints, fails_at, script_outcome, factor_outcome}
 use Rattle.cla_cli.specs.Run.{HasLine}
 
 -- the statuses with which reading stops, and their causes
@@ -27,22 +30,32 @@ ReadStops old new (Err (BadScript place kind)) = Unit {0}
 ReadStops old new (Err (BadFile fault)) = Unit {0}
 ReadStops old new (Err (Operator place fault)) = ⊥
 
--- reading answers the matrix of the outcome, or its refusal
-abbrev pub ReadsAllIn : ℕ → Told → List ℕ → Result Matrix Status → Type 0
-ReadsAllIn bits told script (Ok m) = script_outcome bits told (fin.get told script) ≡ matrix_outcome bits (Some m)
-ReadsAllIn bits told script (Err Done) = ⊥
-ReadsAllIn bits told script (Err Memory) = Unit {0}
-ReadsAllIn bits told script (Err Usage) = ⊥
-ReadsAllIn bits told script (Err Missing) = script_outcome bits told (fin.get told script) ≡ refused Missing
-ReadsAllIn bits told script (Err ReadFault) = Unit {0}
-ReadsAllIn bits told script (Err WriteFault) = ⊥
-ReadsAllIn bits told script (Err (BadScript place kind)) = script_outcome bits told (fin.get told script) ≡ refused (BadScript place kind)
-ReadsAllIn bits told script (Err (BadFile fault)) = script_outcome bits told (fin.get told script) ≡ refused (BadFile fault)
-ReadsAllIn bits told script (Err (Operator place fault)) = ⊥
+-- reading answers the matrix and the number of the outcome, or its refusal
+abbrev pub ReadsAllIn : {N : Type 0} → (N → ℤ) → ℕ → Told → List ℕ → Result (Matrix × Option N) Status → Type 0
+ReadsAllIn value bits told script (Ok x) = script_outcome bits told (fin.get told script) ≡ factor_outcome bits (option_map value x.1) x.0
+ReadsAllIn value bits told script (Err Done) = ⊥
+ReadsAllIn value bits told script (Err Memory) = Unit {0}
+ReadsAllIn value bits told script (Err Usage) = ⊥
+ReadsAllIn value bits told script (Err Missing) = script_outcome bits told (fin.get told script) ≡ refused Missing
+ReadsAllIn value bits told script (Err ReadFault) = Unit {0}
+ReadsAllIn value bits told script (Err WriteFault) = ⊥
+ReadsAllIn value bits told script (Err (BadScript place kind)) = script_outcome bits told (fin.get told script) ≡ refused (BadScript place kind)
+ReadsAllIn value bits told script (Err (BadFile fault)) = script_outcome bits told (fin.get told script) ≡ refused (BadFile fault)
+ReadsAllIn value bits told script (Err (Operator place fault)) = ⊥
 
-abbrev pub ReadsAll : ℕ → Option Told → List ℕ → Result Matrix Status → Type 0
-ReadsAll bits None script result = Unit {0}
-ReadsAll bits (Some told) script result = ReadsAllIn bits told script result
+abbrev pub ReadsAll : {N : Type 0} → (N → ℤ) → ℕ → Option Told → List ℕ → Result (Matrix × Option N) Status → Type 0
+ReadsAll value bits None script result = Unit {0}
+ReadsAll value bits (Some told) script result = ReadsAllIn value bits told script result
+
+-- a number is printed, or the operator that fails is known, as the outcome says; of want of memory nothing is said
+abbrev pub Comes : {N : Type 0} → (N → ℤ) → Outcome → Result N Failed → Type 0
+Comes value outcome (Ok n) = outcome ≡ prints (value n)
+Comes value outcome (Err (failed.Operator place fault)) = outcome ≡ fails_at place fault
+Comes value outcome (Err failed.Memory) = Unit {0}
+
+-- what a script with this number, or with none, comes to over a matrix
+abbrev pub Evaluates : {N : Type 0} → (N → ℤ) → ℕ → Option N → Matrix → Result N Failed → Type 0
+Evaluates value bits number m result = Comes value (factor_outcome bits (option_map value number) m) result
 
 -- a number's line was put out, or a prefix of it where that failed
 abbrev pub Prints : ℤ → Option (List ℕ) → Option (List ℕ) → ℕ → ℕ → Status → Type 0

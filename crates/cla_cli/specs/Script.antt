@@ -1,8 +1,9 @@
 -- The steps of the reader of sum scripts, and what its faults tell.
-use Rattle.std.specs.Prelude.{◌≡◌, ◌≢◌, ℕ, List, [], ◌∷◌, ◌++◌, codes, true, Result, Ok, Err}
-use Rattle.cla_spec.specs.SumScript.{is_text, script_lines}
+use Rattle.std.specs.Prelude.{◌≡◌, ◌≢◌, ℕ, ℤ, List, [], ◌∷◌, Option, true, Result, Ok, Err}
+use Rattle.cla_spec.specs.SumScript.{SumScript, is_text, is_factor, read_line, print_line, script_lines}
 use Rattle.cla_io.specs.Counts.{Rose}
 use Rattle.cla_io.specs.Steps.{Lines}
+use Rattle.cla_cli.specs.Factor.{factor_of, IsFactor}
 use Rattle.cla_cli.specs.declared.script.LineFault.{LineFault}
 use Rattle.cla_cli.specs.declared.script.LineFault.TheVariants.{Form, Read, Memory}
 
@@ -20,9 +21,6 @@ HasLineCause before now (Err Read) = Rose before now
 HasLineCause before now (Err Memory) = Unit {0}
 
 -- the line that reads a table
-abbrev pub read_line : List ℕ → List ℕ
-read_line name = codes "X = read(" ++ 34 ∷ name ++ 34 ∷ codes ")"
-
 abbrev pub IsReadLine : List ℕ → List ℕ → Type 0
 IsReadLine line name = (line ≡ read_line name) × (is_text name ≡ true)
 
@@ -35,8 +33,22 @@ TakesName before after name = (before ≡ read_line name ∷ after) × (is_text 
 abbrev pub NeverName : Lines → Type 0
 NeverName before = (name : List ℕ) (rest : Lines) → is_text name ≡ true → before ≢ read_line name ∷ rest
 
-abbrev pub TakesScript : Lines → Lines → List ℕ → Type 0
-TakesScript before after name = (before ≡ script_lines name) × (after ≡ []) × (is_text name ≡ true)
+-- the line that prints
+abbrev pub IsPrintLine : {N : Type 0} → (N → ℤ) → ℕ → List ℕ → Option N → Type 0
+IsPrintLine value bits line number = (line ≡ print_line (factor_of value number)) × IsFactor value bits number
 
-abbrev pub NeverScript : Lines → Type 0
-NeverScript before = (name : List ℕ) → is_text name ≡ true → before ≢ script_lines name
+abbrev pub IsNoPrintLine : ℕ → List ℕ → Type 0
+IsNoPrintLine bits line = (factor : Option ℕ) → is_factor bits factor ≡ true → line ≢ print_line factor
+
+abbrev pub TakesFactor : {N : Type 0} → (N → ℤ) → ℕ → Lines → Lines → Option N → Type 0
+TakesFactor value bits before after number = (before ≡ print_line (factor_of value number) ∷ after) × IsFactor value bits number
+
+abbrev pub NeverFactor : ℕ → Lines → Type 0
+NeverFactor bits before = (factor : Option ℕ) (rest : Lines) → is_factor bits factor ≡ true → before ≢ print_line factor ∷ rest
+
+-- the whole script
+abbrev pub TakesScript : ℕ → Lines → Lines → SumScript → Type 0
+TakesScript bits before after script = (before ≡ script_lines script) × (after ≡ []) × (is_text script.table ≡ true) × (is_factor bits script.factor ≡ true)
+
+abbrev pub NeverScript : ℕ → Lines → Type 0
+NeverScript bits before = (script : SumScript) → is_text script.table ≡ true → is_factor bits script.factor ≡ true → before ≢ script_lines script

@@ -1,12 +1,16 @@
 //! The command line: the words, the statuses, and the top call that does all that the program does.
 #![tactic(auto)]
 
+mod evaluate;
+mod first;
+#[cfg(test)]
+mod first_tests;
+mod misfit;
 mod needed;
 mod print;
 mod script;
 mod status;
 mod stopped;
-mod sum;
 #[cfg(test)]
 mod tests;
 mod top;

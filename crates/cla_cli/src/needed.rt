@@ -5,11 +5,11 @@ ghost use Rattle.cla_io.specs.InputFrame.{IsAtStart};
 ghost use Rattle.cla_num.specs.Bits.{IsSupported};
 ghost use Rattle.cla_cli.specs.Needed.{OnlyRead, HasStopCause, Opens, ReadsScript, ReadsTable};
 
-use crate::script::{LineFault, read_sum_script};
+use crate::script::{LineFault, SumScript, read_sum_script};
 use crate::stopped::Stopped;
 use cla_io::{Files, Input, Stop};
 use cla_mtx::{MtxFault, read_mtx};
-use cla_num::{Dense, Name, Number};
+use cla_num::{Dense, Number};
 use std::alloc::Global;
 
 /// How many bytes a script may have.
@@ -18,22 +18,23 @@ const SCRIPT_BYTES: u64 = 1 << 20;
 /// How many bytes a table may have.
 const TABLE_BYTES: u64 = 1 << 32;
 
-/// The name of the table whose sum the script of this name prints.
-pub(crate) fn read_script<F: Files>(
+/// The sum script of this name.
+pub(crate) fn read_script<N: Number, F: Files>(
     alloc: Global,
     files: &mut F,
     name: &str,
-) -> Result<Name, Stopped<()>>
+) -> Result<SumScript<N>, Stopped<()>>
+    requires { IsSupported N.BITS }
     ensures frame { OnlyRead (F.state files.old) (F.state files.new) }
     ensures cause { HasStopCause (F.state files.old) (F.state files.new) result }
-    ensures reads { ReadsScript (F.state files.old).told name.now result }
+    ensures reads { ReadsScript N.BITS (F.state files.old).told name.now result }
 {
     open(files, name)?;
     let Ok(mut input) = Input::new(alloc, files, SCRIPT_BYTES) else {
         return Err(Stopped::Memory);
     };
     match read_sum_script(alloc, &mut input) {
-        Ok(table) => Ok(table),
+        Ok(script) => Ok(script),
         Err(LineFault::Form) => Err(Stopped::Refused(())),
         Err(LineFault::Read) => Err(Stopped::Fault),
         Err(LineFault::Memory) => Err(Stopped::Memory),

@@ -159,12 +159,112 @@ fn hostile_scripts(rt: HostRuntime) -> Result<(), Fail> {
         ("X  = read(\"x.mtx\")\nprint(sum(X))\n", 6),
         ("X = read(\"x.mtx\")\r\r\nprint(sum(X))\n", 6),
         ("X = read(\"y.mtx\")\nprint(sum(X))\n", 3),
+        ("X = read(\"y.mtx\")\nprint(sum(X * 3))\n", 3),
+        ("X = read(\"x.mtx\")\nprint(sum(X * 3))", 0),
+        ("X = read(\"x.mtx\")\nprint(sum(X * 3))\n\n", 6),
     ] {
         let came = ran::<Int<47>>(rt.alloc(), &["run", "s"], &World::of(script, SQUARE))?;
         assert_eq!(rt; came.code, status, "at {script}");
         assert_eq!(rt; came.out.is_empty(), status != 0, "at {script}");
         assert!(rt; came.err.is_empty(), "at {script}");
     }
+    Ok(())
+}
+
+// The script that multiplies by this.
+fn product_script(alloc: Global, factor: &str) -> Result<String, Fail> {
+    let mut script = String::from_str(alloc, "X = read(\"x.mtx\")\nprint(sum(")?;
+    script.push_str(factor)?;
+    script.push_str("))\n")?;
+    Ok(script)
+}
+
+#[test]
+fn products(rt: HostRuntime) -> Result<(), Fail> {
+    for (factor, rest, status, out, err) in [
+        ("X * 3", "2 2\n1\n3\n2\n4\n", 0, "30\n", ""),
+        ("X * 0", "2 2\n1\n3\n2\n4\n", 0, "0\n", ""),
+        (
+            "X * 140737488355327",
+            "3 1\n1\n-1\n-1\n",
+            0,
+            "-140737488355327\n",
+            "",
+        ),
+        (
+            "X * 2",
+            "2 1\n70368744177664\n1\n",
+            9,
+            "",
+            "operator 2:13: entry (1, 1) is 140737488355328\n",
+        ),
+        (
+            "X * 2",
+            "2 1\n-70368744177664\n1\n",
+            9,
+            "",
+            "operator 2:13: entry (1, 1) is -140737488355328\n",
+        ),
+        (
+            "X * 2",
+            "3 1\n1\n70368744177664\n70368744177664\n",
+            9,
+            "",
+            "operator 2:13: entry (2, 1) is 140737488355328\n",
+        ),
+        (
+            "X * 2",
+            "2 2\n1\n70368744177664\n70368744177664\n1\n",
+            9,
+            "",
+            "operator 2:13: entry (1, 2) is 140737488355328\n",
+        ),
+        (
+            "X * 2",
+            "2 1\n70368744177663\n1\n",
+            9,
+            "",
+            "operator 2:7: entry (1, 1) is 140737488355328\n",
+        ),
+    ] {
+        let script = product_script(rt.alloc(), factor)?;
+        let mut table = String::from_str(rt.alloc(), BANNER)?;
+        table.push_str(rest)?;
+        let came = ran::<Int<47>>(rt.alloc(), &["run", "s"], &World::of(&script, &table))?;
+        assert_eq!(rt; came.code, status, "at {factor} {rest}");
+        assert_eq!(rt; came.out.as_slice(), out.as_bytes(), "at {factor} {rest}");
+        assert_eq!(rt; came.err.as_slice(), err.as_bytes(), "at {factor} {rest}");
+    }
+    Ok(())
+}
+
+#[test]
+fn refused_factors(rt: HostRuntime) -> Result<(), Fail> {
+    for factor in [
+        "X * -1",
+        "X * -0",
+        "X * 03",
+        "X * +3",
+        "X * 140737488355328",
+        "X * 340282366920938463463374607431768211456",
+        "X *3",
+        "X* 3",
+        "X * ",
+        "X * 3 ",
+        "X *  3",
+        "X * x",
+        "2 * X",
+        "Y * 3",
+        "X * 3 * 3",
+    ] {
+        let script = product_script(rt.alloc(), factor)?;
+        let came = ran::<Int<47>>(rt.alloc(), &["run", "s"], &World::of(&script, SQUARE))?;
+        assert_eq!(rt; came.code, 6, "at {factor}");
+        assert!(rt; came.out.is_empty() && came.err.is_empty(), "at {factor}");
+    }
+    let script = product_script(rt.alloc(), "X * 128")?;
+    let came = ran::<Int<7>>(rt.alloc(), &["run", "s"], &World::of(&script, SQUARE))?;
+    assert_eq!(rt; came.code, 6);
     Ok(())
 }
 

@@ -2,16 +2,17 @@
 
 ghost use Rattle.std.specs.Prelude.{◌≡◌, ◌↔◌, ◌≤◌, map, string_bytes, None};
 ghost use Rattle.cla_num.specs.Bits.{IsSupported};
+ghost use Rattle.cla_num.specs.Counts.{AreBelow, run_bound};
 ghost use Rattle.cla_cli.specs.Words.{accepted_command};
 ghost use Rattle.cla_cli.specs.Needed.{OnlyRead};
 ghost use Rattle.cla_cli.specs.Run.{HasStatus, HasEffects, HasRefusalLine, HasCauses, Completes};
 ghost use Rattle.cla_cli.specs.Parts.{ReadStops, ReadsAll, Prints, RefusesAt};
 
+use crate::evaluate::{Failed, evaluate};
 use crate::needed::{read_script, read_table};
 use crate::print::{operator_line, put_number_line};
 use crate::status::{BadKind, FileFault, Place, ScriptKind, Status};
 use crate::stopped::Stopped;
-use crate::sum::sum;
 use crate::words::accepted;
 use cla_io::{Files, Sink, Stop, put_all};
 use cla_num::{Dense, Meter, Number, OpFault};
@@ -19,10 +20,11 @@ use std::alloc::Global;
 
 /// Does all that the program does on these words, the command line's after the program's name.
 ///
-/// Today they are `run SCRIPT`. The script reads one table and prints the sum of its entries. The
-/// checks come in this order, and the first refusal decides: the words, the script, the table, the
-/// sum. What it comes to is `outcome_of` the words and of what the files hold, unless memory is
-/// wanting or a file, the output or standard error fails.
+/// Today they are `run SCRIPT`. The script reads one table and prints the sum of its entries, or of
+/// its entries times a number. The checks come in this order, and the first refusal decides: the
+/// words, the script, the table, the product, the sum. What it comes to is `outcome_of` the words
+/// and of what the files hold, unless memory is wanting or a file, the output or standard error
+/// fails.
 pub fn run<N: Number, F: Files, O: Sink, E: Sink>(
     alloc: Global,
     words: &[String],
@@ -31,7 +33,8 @@ pub fn run<N: Number, F: Files, O: Sink, E: Sink>(
     err: &mut E,
     meter: &mut Meter,
 ) -> Status
-    requires { IsSupported N.BITS }
+    requires bits { IsSupported N.BITS }
+    requires room { AreBelow run_bound meter.old }
     ensures status { HasStatus N.BITS (F.state files.old).told (map string_bytes words.now) (F.state files.old) (F.state files.new) (O.faults out.old) (O.faults out.new) result }
     ensures effects { HasEffects N.BITS (F.state files.old).told (F.state files.new).told (map string_bytes words.now) (O.told out.old) (O.told out.new) result }
     ensures refusal_line { HasRefusalLine N.BITS (F.state files.old).told (map string_bytes words.now) (E.told err.old) (E.told err.new) (E.faults err.old) (E.faults err.new) result }
@@ -49,25 +52,30 @@ pub fn run<N: Number, F: Files, O: Sink, E: Sink>(
     let Some(script) = accepted(words) else {
         return Status::Usage;
     };
-    let m: Dense<N> = match read(alloc, files, script) {
-        Ok(m) => m,
+    let (m, factor): (Dense<N>, Option<N>) = match read(alloc, files, script) {
+        Ok(read) => read,
         Err(status) => return status,
     };
-    match sum(&m) {
+    match evaluate(alloc, m, factor, meter) {
         Ok(n) => print(out, n),
-        Err(fault) => refuse(alloc, err, Place { line: 2, col: 7 }, fault),
+        Err(Failed::Operator { place, fault }) => refuse(alloc, err, place, fault),
+        Err(Failed::Memory) => Status::Memory,
     }
 }
 
-// The matrix of the table that the script reads.
-fn read<N: Number, F: Files>(alloc: Global, files: &mut F, script: &str) -> Result<Dense<N>, Status>
+// The matrix of the table that the script reads, and the script's number.
+fn read<N: Number, F: Files>(
+    alloc: Global,
+    files: &mut F,
+    name: &str,
+) -> Result<(Dense<N>, Option<N>), Status>
     requires { IsSupported N.BITS }
     ensures frame { OnlyRead (F.state files.old) (F.state files.new) }
     ensures stops { ReadStops (F.state files.old) (F.state files.new) result }
-    ensures reads { ReadsAll N.BITS (F.state files.old).told script.now result }
+    ensures reads { ReadsAll N.value N.BITS (F.state files.old).told name.now result }
 {
-    let table = match read_script(alloc, files, script) {
-        Ok(table) => table,
+    let script = match read_script(alloc, files, name) {
+        Ok(script) => script,
         Err(Stopped::Missing) => return Err(Status::Missing),
         Err(Stopped::Fault) => return Err(Status::ReadFault),
         Err(Stopped::Memory) => return Err(Status::Memory),
@@ -78,8 +86,8 @@ fn read<N: Number, F: Files>(alloc: Global, files: &mut F, script: &str) -> Resu
             });
         }
     };
-    match read_table(alloc, files, table.as_str()) {
-        Ok(m) => Ok(m),
+    match read_table(alloc, files, script.table()) {
+        Ok(m) => Ok((m, script.factor())),
         Err(Stopped::Missing) => Err(Status::Missing),
         Err(Stopped::Fault) => Err(Status::ReadFault),
         Err(Stopped::Memory) => Err(Status::Memory),
