@@ -1,0 +1,3 @@
+pub mod RunAt
+pub mod Made
+pub mod Smalls
