@@ -1,0 +1,7 @@
+pub mod Layouts
+pub mod Parts
+pub mod Laws
+pub mod Places
+pub mod Skeletons
+pub mod AnyGroups
+pub mod Canonical
