@@ -14,3 +14,7 @@ pub mod RunRows
 pub mod RunsMade
 pub mod RunWalks
 pub mod RunCodes
+pub mod Dictionaries
+pub mod GroupsMade
+pub mod Ranks
+pub mod GroupedRows

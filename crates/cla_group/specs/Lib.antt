@@ -7,3 +7,5 @@ pub mod Counted
 pub mod Listed
 pub mod Runs
 pub mod RunLists
+pub mod Dictionaries
+pub mod Grouped

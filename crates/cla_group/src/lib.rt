@@ -2,7 +2,9 @@
 //! know of them.
 #![tactic(auto)]
 
+mod dictionary;
 mod group;
+mod grouped;
 mod join;
 mod kind;
 mod laws;
@@ -13,7 +15,9 @@ mod rest;
 mod row_counts;
 mod run_rows;
 
+pub use dictionary::Dictionary;
 pub use group::Group;
+pub use grouped::{Grouped, group_places};
 pub use join::{Greatest, Join, Least, Plus};
 pub use kind::Kind;
 pub use laws::{

@@ -1,0 +1,114 @@
+//! Dictionaries.
+
+ghost use Rattle.std.specs.Prelude.{◌≡◌, ◌<◌, ◌≤◌, ◌*◌, ℕ, length, map, IfOk};
+ghost use Rattle.cla_group.specs.Groups.{code_of, value_of};
+ghost use Rattle.cla_group.specs.Tuples.{tuples_of};
+ghost use Rattle.cla_group.specs.Rows.{ArePlaces, projected};
+ghost use Rattle.cla_group.specs.Dictionaries.{AreTuples, AreValues, in_order};
+
+use crate::projected::projected_values;
+use crate::renaming::values_in_order;
+use cla_num::{Memory, Number};
+use std::alloc::Global;
+use std::marker::Model;
+
+/// The tuples of a group: each has a value for each of its columns.
+#[derive(Drop)]
+pub struct Dictionary<N: Number> {
+    width: u32,
+    tuples: u32,
+    values: Vec<N>,
+}
+
+impl<N: Number> Model for Dictionary<N> {
+    ghost use Rattle.std.specs.Prelude.{length, map};
+    ghost use Rattle.cla_group.specs.Tuples.{tuples_of};
+    ghost use Rattle.cla_group.specs.Dictionaries.{DictionaryOf, AreValues};
+
+    ghost Value = { DictionaryOf };
+
+    ghost view = { λ d. record { width = d.width; tuples = tuples_of d.width d.tuples (map N.value d.values.items) } };
+
+    ghost invariant = { λ d. AreValues d.width d.tuples (length d.values.items) };
+}
+
+#[tactic(auto, using(crate::proofs::Tuples::tuples_count))]
+impl<N: Number> Dictionary<N> {
+    /// The dictionary of these values, tuple after tuple.
+    pub fn new(width: u32, tuples: u32, values: Vec<N>) -> Dictionary<N>
+        requires { AreValues width tuples (length values.items) }
+        ensures { result ≡ record { width = width; tuples = tuples_of width tuples (map N.value values.items) } }
+    {
+        Dictionary {
+            width,
+            tuples,
+            values,
+        }
+    }
+
+    /// How many values each tuple has.
+    pub fn width(&self) -> u32
+        ensures { result ≡ self.now.width }
+    {
+        self.width
+    }
+
+    /// How many tuples there are.
+    pub fn len(&self) -> u32
+        ensures count { result ≡ length self.now.tuples }
+        ensures are { AreTuples N.BITS self.now.width self.now.tuples }
+    {
+        self.tuples
+    }
+
+    /// The value in place c of tuple k.
+    pub fn value(&self, k: u32, c: u32) -> N
+        requires tuple { k < length self.now.tuples }
+        requires place { c < self.now.width }
+        ensures { N.value result ≡ value_of self.now.tuples k c }
+    {
+        self.values[k as usize * self.width as usize + c as usize]
+    }
+
+    /// The tuples keep the values in these places.
+    pub fn project(&self, alloc: Global, places: &[u32]) -> Result<Dictionary<N>, Memory>
+        requires { ArePlaces self.now.width places.now }
+        ensures { IfOk result (λ d. d ≡ record { width = length places.now; tuples = map (projected places.now) self.now.tuples }) }
+    {
+        let values = projected_values(alloc, self.width, places, &self.values)?;
+        Ok(Dictionary {
+            width: places.len() as u32,
+            tuples: self.tuples,
+            values,
+        })
+    }
+
+    /// The tuples that `order` names, in its order.
+    pub fn reorder(&self, alloc: Global, order: &[u32]) -> Result<Dictionary<N>, Memory>
+        requires within { (k : ℕ) → k < length order.now → code_of order.now k < length self.now.tuples }
+        requires some { 0 < length order.now }
+        requires few { length order.now ≤ length self.now.tuples }
+        ensures { IfOk result (λ d. d ≡ record { width = self.now.width; tuples = in_order order.now self.now.tuples }) }
+    {
+        let values = values_in_order(alloc, self.width, order, &self.values)?;
+        Ok(Dictionary {
+            width: self.width,
+            tuples: order.len() as u32,
+            values,
+        })
+    }
+
+    /// The dictionary of as many tuples, with these values.
+    pub fn with_values(&self, values: Vec<N>) -> Dictionary<N>
+        requires { length values.items ≡ length self.now.tuples * self.now.width }
+        ensures are { AreTuples N.BITS result.width result.tuples }
+        ensures count { length result.tuples ≡ length self.now.tuples }
+        ensures value { result ≡ record { width = self.now.width; tuples = tuples_of self.now.width (length self.now.tuples) (map N.value values.items) } }
+    {
+        Dictionary {
+            width: self.width,
+            tuples: self.tuples,
+            values,
+        }
+    }
+}
