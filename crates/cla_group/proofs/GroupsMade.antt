@@ -1,5 +1,5 @@
 -- Groups that are made of others.
-use Rattle.std.proofs.Common.{◌≡◌, ℕ, ℤ, pos, ◌+◌, ◌-◌, ◌*◌, ◌<◌, ◌≤◌, List, [], length, map, take, drop, get_or, ap, sym, ◌∙◌, arith}
+use Rattle.std.proofs.Common.{refl, ◌≡◌, ℕ, ℤ, pos, ◌+◌, ◌-◌, ◌*◌, ◌<◌, ◌≤◌, List, [], length, map, take, drop, get_or, ap, sym, ◌∙◌, arith}
 use Rattle.std.proofs.Math.Nat.{mul-le-mul_left, mul-le-mul_right}
 use Rattle.std.proofs.lemmas.List.{length-map, get_or-map}
 use Rattle.cla_spec.specs.Numbers.{InRange}
@@ -11,7 +11,8 @@ use Rattle.cla_group.proofs.Coded.{rows_between, row_between}
 use Rattle.cla_group.proofs.Counts.{used_few}
 use Rattle.cla_group.proofs.Projections.{places_few}
 use Rattle.cla_group.specs.Tuples.{AreCodes}
-use Rattle.cla_group.specs.Dictionaries.{AreTuples, AreValues, in_order}
+use Rattle.cla_group.specs.Dictionaries.{DictionaryOf, AreTuples, AreValues, in_order}
+use Rattle.cla_group.specs.KeptRows.{AreKeptRows}
 
 -- the same codes with other tuples
 pub group_valued : (bits width : ℕ) (codes : List ℕ) (tuples tuples' : List (List ℤ)) → IsGroup bits width codes tuples → AreTuples bits width tuples' → length tuples' ≡ length tuples → IsGroup bits width codes tuples'
@@ -86,3 +87,14 @@ dictionary_values width n codes values are = record {
   whole = are.whole;
   few = omega (arith, are.few_cells, are.whole, mul-le-mul_right {m = n} {n = length codes} width (used_few codes n are.used));
 }
+
+-- the rows that are kept with new codes, in the order that renumbers them
+pub rows_kept : (bits : ℕ) (codes : List ℕ) (from : DictionaryOf) (new order : List ℕ) (kept : DictionaryOf) → AreRenamed (length from.tuples) codes new order → kept ≡ record { width = from.width; tuples = in_order order from.tuples } → AreKeptRows bits codes from new kept
+rows_kept bits codes from new order kept are is =
+    let count : length (in_order order from.tuples) ≡ length order = length-map order (λ k. get_or from.tuples k []) in
+    rw is (record {
+      width = refl;
+      numbered = λ k there. are.rising k (k + 1) (omega arith) (rw count at there);
+      group = λ a b all some within cut group. group_sliced bits from.width a b all from.tuples new order some within group (rw cut at are);
+      rows = λ a b all some within cut group. rows_sliced bits from.width a b all from.tuples new order within group (rw cut at are);
+    })

@@ -9,3 +9,5 @@ pub mod Runs
 pub mod RunLists
 pub mod Dictionaries
 pub mod Grouped
+pub mod Kinds
+pub mod KeptRows

@@ -31,3 +31,7 @@ pub record IsName (old : ℕ) (before after : List ℕ) (n : ℕ) : Type 0 where
 -- values tuple after tuple: tuple k has those of the old tuple order k
 abbrev pub AreInOrder : ℕ → List ℕ → List ℤ → List ℤ → Type 0
 AreInOrder width order old new = (k c : ℕ) → k < length order → c < width → at new (k * width + c) ≡ at old (code_of order k * width + c)
+
+-- codes of n tuples are numbered by their first rows
+abbrev pub AreNumbered : List ℕ → ℕ → Type 0
+AreNumbered codes n = (k : ℕ) → k + 1 < n → first_row_of codes k < first_row_of codes (k + 1)

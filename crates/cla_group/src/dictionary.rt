@@ -1,12 +1,14 @@
 //! Dictionaries.
 
-ghost use Rattle.std.specs.Prelude.{◌≡◌, ◌<◌, ◌≤◌, ◌*◌, ℕ, length, map, IfOk};
+ghost use Rattle.std.specs.Prelude.{◌≡◌, ◌<◌, ◌≤◌, ◌*◌, ℕ, List, length, map, IfOk};
 ghost use Rattle.cla_group.specs.Groups.{code_of, value_of};
 ghost use Rattle.cla_group.specs.Tuples.{tuples_of};
 ghost use Rattle.cla_group.specs.Rows.{ArePlaces, projected};
+ghost use Rattle.cla_group.specs.Listed.{rest_of};
 ghost use Rattle.cla_group.specs.Dictionaries.{AreTuples, AreValues, in_order};
 
 use crate::projected::projected_values;
+use crate::rest::rest_tuple;
 use crate::renaming::values_in_order;
 use cla_num::{Memory, Number};
 use std::alloc::Global;
@@ -23,7 +25,8 @@ pub struct Dictionary<N: Number> {
 impl<N: Number> Model for Dictionary<N> {
     ghost use Rattle.std.specs.Prelude.{length, map};
     ghost use Rattle.cla_group.specs.Tuples.{tuples_of};
-    ghost use Rattle.cla_group.specs.Dictionaries.{DictionaryOf, AreValues};
+    ghost use Rattle.cla_group.specs.Listed.{rest_of};
+ghost use Rattle.cla_group.specs.Dictionaries.{DictionaryOf, AreValues};
 
     ghost Value = { DictionaryOf };
 
@@ -68,6 +71,13 @@ impl<N: Number> Dictionary<N> {
         ensures { N.value result ≡ value_of self.now.tuples k c }
     {
         self.values[k as usize * self.width as usize + c as usize]
+    }
+
+    /// The rest of these tuples, whichever rows have them: the first tuple of zeros, if there is one.
+    pub fn rest(&self) -> Option<u32>
+        ensures { (codes : List ℕ) → result ≡ rest_of codes self.now.tuples }
+    {
+        rest_tuple(self.width, &self.values)
     }
 
     /// The tuples keep the values in these places.

@@ -1,6 +1,6 @@
 //! How a part is joined with what a row has.
 
-ghost use Rattle.std.specs.Prelude.{◌≡◌, ◌<◌, ◌+ℤ◌, ℕ, ℤ, length};
+ghost use Rattle.std.specs.Prelude.{◌≡◌, ◌<◌, ◌+ℤ◌, ℕ, ℤ, length, true};
 ghost use Rattle.std.specs.Int.{w128, int_min, int_max};
 ghost use Rattle.std.specs.Int.RustNames.{FitsSigned};
 ghost use Rattle.cla_group.specs.Groups.{at};
@@ -19,6 +19,11 @@ pub trait Join {
     fn joined(a: Wide, b: Wide) -> Wide
         requires { can_join a b }
         ensures { result ≡ join a b };
+
+    /// Whether this part is known to leave everything that it is joined with as it is, so that its rows
+    /// may be passed over.
+    fn leaves_all(part: Wide) -> bool
+        ensures { result ≡ true → (a : ℤ) → join a part ≡ a };
 }
 
 /// Joins two integers by their sum.
@@ -38,6 +43,10 @@ impl Join for Plus {
     fn joined(a: Wide, b: Wide) -> Wide {
         a.plus(b)
     }
+
+    fn leaves_all(part: Wide) -> bool {
+        part == Wide::zero()
+    }
 }
 
 impl Join for Least {
@@ -48,6 +57,10 @@ impl Join for Least {
     fn joined(a: Wide, b: Wide) -> Wide {
         a.min(b)
     }
+
+    fn leaves_all(_part: Wide) -> bool {
+        false
+    }
 }
 
 impl Join for Greatest {
@@ -57,6 +70,10 @@ impl Join for Greatest {
 
     fn joined(a: Wide, b: Wide) -> Wide {
         a.max(b)
+    }
+
+    fn leaves_all(_part: Wide) -> bool {
+        false
     }
 }
 

@@ -6,6 +6,7 @@ mod dictionary;
 mod group;
 mod grouped;
 mod join;
+mod kept_rows;
 mod kind;
 mod laws;
 mod owned;
@@ -19,6 +20,7 @@ pub use dictionary::Dictionary;
 pub use group::Group;
 pub use grouped::{Grouped, group_places};
 pub use join::{Greatest, Join, Least, Plus};
+pub use kept_rows::{KeptRows, keep_rows};
 pub use kind::Kind;
 pub use laws::{
     extremes_regroup, faults_regroup, first_places_regroup, sums_regroup, weighted_sums_regroup,

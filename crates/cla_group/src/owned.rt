@@ -2,6 +2,7 @@
 
 ghost use Rattle.std.specs.Prelude.{◌≡◌, ◌<◌, ◌≤◌, ◌*◌, ◌-◌, length, map, IfOk};
 ghost use Rattle.cla_group.specs.Tuples.{tuples_of};
+ghost use Rattle.cla_group.specs.Renaming.{AreNumbered};
 ghost use Rattle.cla_group.specs.Rows.{AreRowsFrom, ArePlaces, projected};
 
 use crate::group::Group;
@@ -12,12 +13,14 @@ use std::alloc::Global;
 /// call is refused for want of memory alone, and leaves the group as it was.
 pub trait Owned<N: Number>: Group<N> + Sized {
     /// The rows from row a to before row b. Each keeps its values, two of them have equal codes
-    /// exactly where they had, and tuples that no row holds are dropped.
+    /// exactly where they had, and tuples that no row holds are dropped. The others are numbered by the
+    /// first rows that hold them.
     fn slice_rows(&self, alloc: Global, a: u32, b: u32) -> Result<Self, Memory>
         requires some { a < b }
         requires within { b ≤ length (Self.codes self.now) }
         ensures columns { IfOk result (λ g. Self.columns g ≡ Self.columns self.now) }
-        ensures rows { IfOk result (λ g. AreRowsFrom a (b - a) (Self.columns self.now) (Self.codes self.now) (Self.dictionary self.now) (Self.codes g) (Self.dictionary g)) };
+        ensures rows { IfOk result (λ g. AreRowsFrom a (b - a) (Self.columns self.now) (Self.codes self.now) (Self.dictionary self.now) (Self.codes g) (Self.dictionary g)) }
+        ensures numbered { IfOk result (λ g. AreNumbered (Self.codes g) (length (Self.dictionary g))) };
 
     /// The same codes; each tuple keeps the values in these places, which rise.
     fn project(&self, alloc: Global, places: &[u32]) -> Result<Self, Memory>
