@@ -1,13 +1,14 @@
 -- What is known of dictionaries.
-use Rattle.std.proofs.Common.{◌≡◌, ℕ, ℤ, pos, ◌+◌, ◌*◌, ◌<◌, ◌≤◌, List, [], length, map, get_or, ap, sym, ◌∙◌, arith}
+use Rattle.std.proofs.Common.{◌≡◌, ℕ, ℤ, pos, ◌+◌, ◌-◌, ◌*◌, ◌<◌, ◌≤◌, List, [], length, map, take, drop, get_or, ap, sym, ◌∙◌, arith}
 use Rattle.std.proofs.Math.Nat.{mul-le-mul_left, mul-le-mul_right}
-use Rattle.std.proofs.lemmas.List.{ext_get_or, length-map, get_or-map}
+use Rattle.std.proofs.lemmas.List.{ext_get_or, length-map, get_or-map, length-take-le, length-drop, get_or-take, get_or-drop}
 use Rattle.std.proofs.lemmas.List.FromFn.{length-map-range_with_len, get_or-map-range_with_len}
 use Rattle.cla_spec.specs.Numbers.{InRange}
 use Rattle.cla_spec.specs.Matrix.{most_cells}
 use Rattle.cla_group.specs.Groups.{at, code_of, value_of}
 use Rattle.cla_group.specs.Tuples.{tuple_at, tuples_of}
 use Rattle.cla_group.specs.Renaming.{AreInOrder}
+use Rattle.cla_group.proofs.Projections.{stretch_item}
 use Rattle.cla_group.proofs.Tuples.{tuples_count, tuple_is, tuple_width, tuple_value, place_within, item_holds}
 use Rattle.cla_group.specs.Dictionaries.{AreTuples, AreValues, in_order}
 
@@ -45,3 +46,30 @@ in_order_tuples width n order old new within same =
     tuple_is width m new k there ∙ tuple_same width new old k (code_of order k) (λ c place. same k c there place)
     ∙ sym (tuple_is width n old (code_of order k) (within k there))
     ∙ sym (get_or-map (λ k. get_or tuples k []) order k 0 [] there)))
+
+-- how many values stand between tuple a and tuple b
+pub slice_size : (width a b : ℕ) → a < b → b * width - a * width ≡ (b - a) * width
+slice_size width a b some =
+    let sum : b ≡ a + (b - a) = omega (arith, some) in
+    let product : b * width ≡ a * width + (b - a) * width = ap (λ (m : ℕ). m * width) sum ∙ omega arith in
+    omega (arith, product)
+
+-- the values from tuple a to before tuple b are those of these tuples
+pub slice_tuples : {N : Type 0} (value : N → ℤ) (width n a b : ℕ) (items : List N) → a < b → b ≤ n → tuples_of width (b - a) (map value (take (b * width - a * width) (drop (a * width) items))) ≡ take (b - a) (drop a (tuples_of width n (map value items)))
+slice_tuples {N} value width n a b items some within =
+    let cut = take (b * width - a * width) (drop (a * width) items) in
+    let old = tuples_of width n (map value items) in
+    let count : length old ≡ n = tuples_count width n (map value items) in
+    let left : length (drop a old) ≡ n - a = length-drop a old ∙ ap (λ (m : ℕ). m - a) count in
+    let there : b - a ≤ length (drop a old) = omega (arith, left, within) in
+    ext_get_or [] (tuples_of width (b - a) (map value cut)) (take (b - a) (drop a old))
+    (tuples_count width (b - a) (map value cut) ∙ sym (length-take-le (b - a) (drop a old) there))
+    (λ k lt. (let k_there : k < b - a = rw (tuples_count width (b - a) (map value cut)) at lt in
+    tuple_is width (b - a) (map value cut) k k_there
+    ∙ tuple_same width (map value cut) (map value items) k (a + k) (λ c place.
+    (let inside : k * width + c < b * width - a * width = rw (slice_size width a b some) (place_within width (b - a) k c k_there place) in
+    let place_is : a * width + (k * width + c) ≡ (a + k) * width + c = omega arith in
+    stretch_item value items (a * width) (b * width - a * width) (k * width + c) inside ∙ ap (at (map value items)) place_is))
+    ∙ sym (tuple_is width n (map value items) (a + k) (omega (arith, k_there, within)))
+    ∙ sym (get_or-drop a old k [])
+    ∙ sym (get_or-take (b - a) (drop a old) k [] k_there)))

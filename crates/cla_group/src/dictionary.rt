@@ -1,6 +1,6 @@
 //! Dictionaries.
 
-ghost use Rattle.std.specs.Prelude.{◌≡◌, ◌<◌, ◌≤◌, ◌*◌, ℕ, List, length, map, IfOk};
+ghost use Rattle.std.specs.Prelude.{◌≡◌, ◌<◌, ◌≤◌, ◌*◌, ◌-◌, ℕ, List, length, map, take, drop, IfOk};
 ghost use Rattle.cla_group.specs.Groups.{code_of, value_of};
 ghost use Rattle.cla_group.specs.Tuples.{tuples_of};
 ghost use Rattle.cla_group.specs.Rows.{ArePlaces, projected};
@@ -105,6 +105,22 @@ impl<N: Number> Dictionary<N> {
             width: self.width,
             tuples: order.len() as u32,
             values,
+        })
+    }
+
+    /// The tuples from tuple a to before tuple b.
+    pub fn slice(&self, alloc: Global, a: u32, b: u32) -> Result<Dictionary<N>, Memory>
+        requires some { a < b }
+        requires within { b ≤ length self.now.tuples }
+        ensures value { IfOk result (λ d. d ≡ record { width = self.now.width; tuples = take (b - a) (drop a self.now.tuples) }) }
+        ensures are { IfOk result (λ d. AreTuples N.BITS d.width d.tuples) }
+    {
+        let width = self.width as usize;
+        let values = &self.values[a as usize * width..b as usize * width];
+        Ok(Dictionary {
+            width: self.width,
+            tuples: b - a,
+            values: Vec::from_slice(alloc, values)?,
         })
     }
 

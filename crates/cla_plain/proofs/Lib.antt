@@ -1,2 +1,1 @@
 pub mod PlainGroups
-pub mod Shapes

@@ -1,29 +1,89 @@
--- What plain groups hold, and their rows from one on.
-use Rattle.std.proofs.Common.{◌≡◌, ℕ, ℤ, ◌+◌, ◌*◌, ◌<◌, ◌≤◌, List, ap, sym, ◌∙◌, arith}
+-- Groups whose tuples are their rows.
+use Rattle.std.proofs.Common.{◌≡◌, ℕ, zero, suc, ℤ, ◌+◌, ◌-◌, ◌*◌, ◌/◌, ◌<◌, ◌≤◌, List, [], length, take, drop, ap, sym, ◌∙◌, arith}
 use Rattle.std.specs.List.{range_with_len}
-use Rattle.cla_group.specs.Groups.{at, value_of, cell_of}
-use Rattle.cla_group.specs.Tuples.{tuples_of}
+use Rattle.std.proofs.lemmas.List.{length-take-le, length-drop, get_or-take, get_or-drop}
+use Rattle.cla_group.specs.Groups.{at, value_of, cell_of, IsGroup}
 use Rattle.cla_group.specs.Rows.{AreRowsFrom}
-use Rattle.cla_group.proofs.Tuples.{tuple_value, place_within}
-use Rattle.cla_group.proofs.Counting.{rows_count, code_is}
+use Rattle.cla_group.specs.Renaming.{AreNumbered}
+use Rattle.cla_group.specs.Dictionaries.{AreTuples, AreValues}
+use Rattle.cla_group.proofs.Counting.{rows_count, code_is, occurs_once, first_row_is}
+use Rattle.cla_plain.specs.Rows.{AreRows}
 
--- the entry in row i and column c
-pub plain_cell : (width rows : ℕ) (values : List ℤ) (i c : ℕ) → i < rows → c < width → cell_of (range_with_len 0 rows) (tuples_of width rows values) i c ≡ at values (i * width + c)
-plain_cell width rows values i c row place =
-    ap (λ (k : ℕ). value_of (tuples_of width rows values) k c) (code_is rows i row) ∙ tuple_value width rows values i c row place
+-- row i has code i
+pub plain_group : (bits width : ℕ) (tuples : List (List ℤ)) → AreTuples bits width tuples → IsGroup bits width (range_with_len 0 (length tuples)) tuples
+plain_group bits width tuples are =
+    let n = length tuples in
+    record {
+      a_row = rw (rows_count n) are.a_tuple;
+      a_column = are.a_column;
+      few_cells = rw (rows_count n) are.few;
+      in_tuples = λ i row. (let there : i < n = rw (rows_count n) at row in rw (code_is n i there) there);
+      used = λ k there. rw (occurs_once n k there) (omega arith);
+      full = are.full;
+      small = are.small;
+    }
 
--- the n rows from row a on
-pub plain_rows : (width rows a n : ℕ) (old new : List ℤ) → a + n ≤ rows → ((d : ℕ) → d < n * width → at new d ≡ at old (a * width + d)) → AreRowsFrom a n width (range_with_len 0 rows) (tuples_of width rows old) (range_with_len 0 n) (tuples_of width n new)
-plain_rows width rows a n old new within same = record {
-  rows = rows_count n;
-  cells = λ i c row place.
-      (let place_of : a * width + (i * width + c) ≡ (a + i) * width + c = omega arith in
-      plain_cell width n new i c row place ∙ same (i * width + c) (place_within width n i c row place)
-      ∙ ap (at old) place_of ∙ sym (plain_cell width rows old (a + i) c (omega (arith, row, within)) place));
-  alike = λ i j row other.
-      (let row_is = code_is n i row in
-      let other_is = code_is n j other in
-      let old_row_is = code_is rows (a + i) (omega (arith, row, within)) in
-      let old_other_is = code_is rows (a + j) (omega (arith, other, within)) in
-      (λ equal. omega (arith, equal, row_is, other_is, old_row_is, old_other_is), λ equal. omega (arith, equal, row_is, other_is, old_row_is, old_other_is)));
+-- tuples of a group are those of a dictionary
+pub group_tuples : (bits width : ℕ) (tuples : List (List ℤ)) → IsGroup bits width (range_with_len 0 (length tuples)) tuples → AreTuples bits width tuples
+group_tuples bits width tuples is = record {
+  a_column = is.a_column;
+  a_tuple = rw (rows_count (length tuples)) at is.a_row;
+  few = rw (rows_count (length tuples)) at is.few_cells;
+  full = is.full;
+  small = is.small;
 }
+
+some_rows : (n width values : ℕ) → values ≡ n * width → 1 ≤ values → 1 ≤ n
+some_rows zero width values whole some = absurd (omega (arith, whole, some))
+some_rows (suc n) width values whole some = omega arith
+
+-- whole rows of values
+pub rows_whole : {X : Type 0} (width : ℕ) (values : List X) → AreRows width values → AreValues width (length values / width) (length values)
+rows_whole width values are =
+    let whole : length values ≡ (length values / width) * width = omega (arith, are.whole, are.a_column) in
+    record {
+      a_column = are.a_column;
+      a_tuple = some_rows (length values / width) width (length values) whole are.a_value;
+      whole = whole;
+      few = are.few;
+    }
+
+-- the rows from row a to before row b
+module _ (width a b : ℕ) (tuples : List (List ℤ)) (some : a < b) (within : b ≤ length tuples) where
+  cut : List (List ℤ)
+  cut = take (b - a) (drop a tuples)
+
+  cut_count : length cut ≡ b - a
+  unfolding cut
+  cut_count = length-take-le (b - a) (drop a tuples) (omega (arith, length-drop a tuples, within))
+
+  cut_cell : (i c : ℕ) → i < b - a → cell_of (range_with_len 0 (length cut)) cut i c ≡ cell_of (range_with_len 0 (length tuples)) tuples (a + i) c
+  unfolding cut
+  cut_cell i c row =
+      let old : a + i < length tuples = omega (arith, row, within) in
+      let new : i < length cut = omega (arith, row, cut_count) in
+      ap (λ (k : ℕ). value_of cut k c) (code_is (length cut) i new)
+      ∙ ap (λ (tuple : List ℤ). at tuple c) (get_or-take (b - a) (drop a tuples) i [] row ∙ get_or-drop a tuples i [])
+      ∙ ap (λ (k : ℕ). value_of tuples k c) (sym (code_is (length tuples) (a + i) old))
+
+pub rows_cut : (width a b : ℕ) (tuples : List (List ℤ)) → a < b → b ≤ length tuples →
+    AreRowsFrom a (b - a) width (range_with_len 0 (length tuples)) tuples (range_with_len 0 (length (take (b - a) (drop a tuples)))) (take (b - a) (drop a tuples))
+unfolding cut
+rows_cut width a b tuples some within =
+    let n = length (take (b - a) (drop a tuples)) in
+    let count : n ≡ b - a = cut_count width a b tuples some within in
+    let new_code : (i : ℕ) → i < b - a → i < n = (λ i row. omega (arith, row, count)) in
+    let old_code : (i : ℕ) → i < b - a → a + i < length tuples = (λ i row. omega (arith, row, within)) in
+    record {
+      rows = rows_count n ∙ count;
+      cells = λ i c row place. cut_cell width a b tuples some within i c row;
+      alike = λ i j row other.
+          (let i_new = code_is n i (new_code i row) in
+          let j_new = code_is n j (new_code j other) in
+          let i_old = code_is (length tuples) (a + i) (old_code i row) in
+          let j_old = code_is (length tuples) (a + j) (old_code j other) in
+          (λ same. omega (arith, same, i_new, j_new, i_old, j_old), λ same. omega (arith, same, i_new, j_new, i_old, j_old)));
+    }
+
+pub rows_numbered : (n : ℕ) → AreNumbered (range_with_len 0 n) n
+rows_numbered n = λ k there. rw (first_row_is n k (omega (arith, there)), first_row_is n (k + 1) there) (omega arith)

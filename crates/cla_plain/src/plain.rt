@@ -2,23 +2,22 @@
 
 ghost use Rattle.std.specs.Prelude.{◌≡◌, ◌*◌, ◌/◌, length, map, IfOk, IsOk};
 ghost use Rattle.std.specs.List.{range_with_len};
-ghost use Rattle.cla_spec.specs.Matrix.{IsShaped};
+ghost use Rattle.cla_group.specs.Groups.{IsGroup};
 ghost use Rattle.cla_group.specs.Tuples.{tuples_of};
 ghost use Rattle.cla_plain.specs.Rows.{AreRows};
 
-use cla_group::{Group, Owned, projected_values};
+use cla_group::{Dictionary, Group, Owned};
 use cla_num::{Memory, Number};
 use std::alloc::Global;
 
-/// A group that is kept uncompressed (PVLDB 9(12), uncompressed column groups): its values stand row
+/// A group that is kept uncompressed (PVLDB 9(12): uncompressed column group, UC): its values stand row
 /// by row, one for each column. Each row is a tuple of its own, so row i has code i and there are as
 /// many tuples as rows, equal ones among them or not.
 #[derive(Drop)]
-pub struct Plain<N> {
-    width: u32,
-    rows: u32,
-    values: Vec<N>,
-    ghost shaped: { IsShaped rows width values.items },
+pub struct Plain<N: Number> {
+    // The tuples are the rows.
+    dictionary: Dictionary<N>,
+    ghost is: { IsGroup N.BITS dictionary.width (range_with_len 0 (length dictionary.tuples)) dictionary.tuples },
 }
 
 impl<N: Number> Plain<N> {
@@ -32,37 +31,33 @@ impl<N: Number> Plain<N> {
     {
         let rows = (values.len() / width as usize) as u32;
         Plain {
-            width,
-            rows,
-            values,
+            dictionary: Dictionary::new(width, rows, values),
         }
     }
 }
 
-#[tactic(auto, using(cla_group::proofs::Tuples::tuples_count, cla_group::proofs::Counting::rows_count, cla_group::proofs::Counting::code_is, cla_group::proofs::Counting::first_row_is))]
+#[tactic(auto, using(cla_group::proofs::Counting::rows_count, cla_group::proofs::Counting::code_is, cla_group::proofs::Counting::first_row_is))]
 impl<N: Number> Group<N> for Plain<N> {
-    ghost use Rattle.cla_group.proofs.Counting.{plain_group};
+    ghost columns = { λ p. p.dictionary.width };
 
-    ghost columns = { λ p. p.width };
+    ghost codes = { λ p. range_with_len 0 (length p.dictionary.tuples) };
 
-    ghost codes = { λ p. range_with_len 0 p.rows };
-
-    ghost dictionary = { λ p. tuples_of p.width p.rows (map N.value p.values.items) };
+    ghost dictionary = { λ p. p.dictionary.tuples };
 
     fn rows(&self) -> u32 {
-        self.rows
+        self.dictionary.len()
     }
 
     fn width(&self) -> u32 {
-        self.width
+        self.dictionary.width()
     }
 
     fn tuples(&self) -> u32 {
-        self.rows
+        self.dictionary.len()
     }
 
     fn value(&self, k: u32, c: u32) -> N {
-        self.values[k as usize * self.width as usize + c as usize]
+        self.dictionary.value(k, c)
     }
 
     fn occurrences(&self, _k: u32) -> u32 {
@@ -77,40 +72,32 @@ impl<N: Number> Group<N> for Plain<N> {
         i
     }
 
-    ghost laws = { λ p. plain_group N.BITS N.value N.in_range p.width p.rows p.values.items p.shaped };
+    ghost laws = { λ p. p.is };
 }
 
-#[tactic(auto, using(cla_group::proofs::Tuples::tuples_count, cla_group::proofs::Counting::rows_count))]
+#[tactic(auto, using(cla_group::proofs::Counting::rows_count))]
 impl<N: Number> Owned<N> for Plain<N> {
     fn slice_rows(&self, alloc: Global, a: u32, b: u32) -> Result<Self, Memory> {
-        let width = self.width as usize;
-        let rows = &self.values[a as usize * width..b as usize * width];
         Ok(Plain {
-            width: self.width,
-            rows: b - a,
-            values: Vec::from_slice(alloc, rows)?,
+            dictionary: self.dictionary.slice(alloc, a, b)?,
         })
     }
 
     fn project(&self, alloc: Global, places: &[u32]) -> Result<Self, Memory> {
         Ok(Plain {
-            width: places.len() as u32,
-            rows: self.rows,
-            values: projected_values(alloc, self.width, places, &self.values)?,
+            dictionary: self.dictionary.project(alloc, places)?,
         })
     }
 
     fn with_values(&self, _alloc: Global, values: Vec<N>) -> Result<Self, Memory>
-        requires whole { length values.items ≡ length (tuples_of self.now.width self.now.rows (map N.value self.now.values.items)) * self.now.width }
+        requires whole { length values.items ≡ length self.now.dictionary.tuples * self.now.dictionary.width }
         ensures succeeds { IsOk result }
-        ensures columns { IfOk result (λ g. g.width ≡ self.now.width) }
-        ensures codes { IfOk result (λ g. range_with_len 0 g.rows ≡ range_with_len 0 self.now.rows) }
-        ensures dictionary { IfOk result (λ g. tuples_of g.width g.rows (map N.value g.values.items) ≡ tuples_of self.now.width (length (tuples_of self.now.width self.now.rows (map N.value self.now.values.items))) (map N.value values.items)) }
+        ensures columns { IfOk result (λ g. g.dictionary.width ≡ self.now.dictionary.width) }
+        ensures codes { IfOk result (λ g. range_with_len 0 (length g.dictionary.tuples) ≡ range_with_len 0 (length self.now.dictionary.tuples)) }
+        ensures dictionary { IfOk result (λ g. g.dictionary.tuples ≡ tuples_of self.now.dictionary.width (length self.now.dictionary.tuples) (map N.value values.items)) }
     {
         Ok(Plain {
-            width: self.width,
-            rows: self.rows,
-            values,
+            dictionary: self.dictionary.with_values(values),
         })
     }
 }
