@@ -56,6 +56,16 @@ pub trait Group<N: Number> {
         requires row { i < length (codes self.now) }
         ensures { result ≡ code_of (codes self.now) i };
 
+    /// The code of each row, in one pass. `into` has an item for each row.
+    fn read_codes(&self, into: &mut [u32])
+        requires rows { length into.old ≡ length (codes self.now) }
+        ensures { into.new ≡ codes self.now }
+    {
+        for i in 0..self.rows() {
+            into[i as usize] = self.code_at(i);
+        }
+    }
+
     /// Adds part k to the place of every row with code k. `parts` has an item for each tuple, and
     /// `into` one for each row.
     fn scatter(&self, parts: &[Wide], into: &mut [Wide])
