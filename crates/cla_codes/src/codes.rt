@@ -1,33 +1,31 @@
 //! Groups that keep one code for each row.
 
-ghost use Rattle.std.specs.Prelude.{◌≡◌, ◌/◌, length, map, IfOk};
+ghost use Rattle.std.specs.Prelude.{◌≡◌, ◌/◌, ◌*◌, length, map, IfOk};
+ghost use Rattle.cla_group.specs.Groups.{IsGroup};
 ghost use Rattle.cla_group.specs.Tuples.{AreCodes, tuples_of};
-ghost use Rattle.cla_group.specs.Counted.{AreCounted};
 ghost use Rattle.cla_codes.specs.Widths.{FitsWidth};
+ghost use Rattle.cla_codes.specs.Bytes.{AreWritten};
 
-use cla_group::{Group, Occurrences, counted};
+use crate::byte_codes::ByteCodes;
+use cla_group::{Dictionary, Group, KeptRows, Owned, keep_rows};
 use cla_num::{Memory, Number};
 use std::alloc::Global;
+use std::rc::Rc;
 
-/// A group with one code for each row (PVLDB 9(12), section 3, dense dictionary coding): row by row the
-/// number of its tuple, which W bytes can hold, and the tuples' values, tuple by tuple. W is 1, 2 or 4.
+/// A group with one code for each row (dense dictionary coding, DDC, as SystemDS has it after PVLDB
+/// 9(12)): row by row the number of its tuple, in W bytes, and the tuples. W is 1, 2 or 4.
 ///
 /// How many rows have a code and which is the first are kept too, so that each call on one tuple or
-/// one row answers in constant time.
+/// one row answers in constant time. What belongs to the rows is shared between a group and those
+/// with the same rows that are made of it.
 #[derive(Drop)]
-pub struct Codes<N, const W: usize> {
-    pub(crate) width: u32,
-    pub(crate) tuples: u32,
-    pub(crate) codes: Vec<u32>,
-    pub(crate) values: Vec<N>,
-    pub(crate) counts: Vec<u32>,
-    pub(crate) first_rows: Vec<u32>,
-    ghost are: { AreCodes width tuples codes.items (length values.items) },
-    ghost fits: { FitsWidth W tuples },
-    ghost counted: { AreCounted codes.items tuples counts.items first_rows.items },
+pub struct Codes<N: Number, const W: usize> {
+    dictionary: Dictionary<N>,
+    rows: Rc<ByteCodes<W>>,
+    ghost is: { IsGroup N.BITS dictionary.width rows.value dictionary.tuples },
+    ghost fits: { FitsWidth W (length dictionary.tuples) },
 }
 
-#[tactic(auto, using(cla_group::proofs::Coded::tuples_few, cla_group::proofs::Coded::codes_few))]
 impl<N: Number, const W: usize> Codes<N, W> {
     /// The group of rows with these codes. Its tuples stand one after the other, with `width` values
     /// each; each of them is the code of some row, and there are no more than W bytes can name.
@@ -44,100 +42,102 @@ impl<N: Number, const W: usize> Codes<N, W> {
         ensures dictionary { IfOk result (λ g. ⟦<Codes<N, W> as Group<N>>⟧.dictionary g ≡ tuples_of width (length values.items / width) (map N.value values.items)) }
     {
         let tuples = (values.len() / width as usize) as u32;
-        let codes = codes.to_vec(alloc)?;
-        Codes::of_tuples(alloc, width, tuples, codes, values)
+        Codes::of_codes(alloc, Dictionary::new(width, tuples, values), codes)
     }
 
-    // The group of these codes and tuples, with its counts and first rows.
-    pub(crate) fn of_tuples(
+    // The group of these tuples and codes.
+    fn of_codes(
         alloc: Global,
-        width: u32,
-        tuples: u32,
-        codes: Vec<u32>,
-        values: Vec<N>,
+        dictionary: Dictionary<N>,
+        codes: &[u32],
     ) -> Result<Codes<N, W>, Memory>
-        requires codes { AreCodes width tuples codes.items (length values.items) }
-        requires fits { FitsWidth W tuples }
-        ensures columns { IfOk result (λ g. g.width ≡ width) }
-        ensures tuples { IfOk result (λ g. g.tuples ≡ tuples) }
-        ensures codes { IfOk result (λ g. g.codes.items ≡ codes.items) }
-        ensures values { IfOk result (λ g. g.values.items ≡ values.items) }
+        requires is { IsGroup N.BITS dictionary.width codes.now dictionary.tuples }
+        requires fits { FitsWidth W (length dictionary.tuples) }
+        ensures dictionary { IfOk result (λ g. g.dictionary ≡ dictionary) }
+        ensures codes { IfOk result (λ g. g.rows.value ≡ codes.now) }
     {
-        let Occurrences { counts, first_rows } = counted(alloc, &codes, tuples)?;
+        let rows = ByteCodes::from_codes(alloc, codes, dictionary.len())?;
         Ok(Codes {
-            width,
-            tuples,
-            codes,
-            values,
-            counts,
-            first_rows,
+            dictionary,
+            rows: Rc::new(alloc, rows)?,
         })
     }
 
-    // The group of the same codes, whose tuples have these values.
-    pub(crate) fn of_values(
-        &self,
-        alloc: Global,
-        width: u32,
-        values: Vec<N>,
-    ) -> Result<Codes<N, W>, Memory>
-        requires codes { AreCodes width self.now.tuples self.now.codes.items (length values.items) }
-        ensures columns { IfOk result (λ g. g.width ≡ width) }
-        ensures tuples { IfOk result (λ g. g.tuples ≡ self.now.tuples) }
-        ensures codes { IfOk result (λ g. g.codes.items ≡ self.now.codes.items) }
-        ensures values { IfOk result (λ g. g.values.items ≡ values.items) }
+    /// The codes of the rows one after the other, each in W bytes, the least byte first. It takes no
+    /// memory.
+    pub fn bytes(&self) -> &[u8]
+        ensures { let codes = ⟦<Codes<N, W> as Group<N>>⟧.codes self.now in AreWritten W (length codes) codes result.now }
     {
-        let codes = self.codes.to_vec(alloc)?;
-        let counts = self.counts.to_vec(alloc)?;
-        let first_rows = self.first_rows.to_vec(alloc)?;
-        Ok(Codes {
-            width,
-            tuples: self.tuples,
-            codes,
-            values,
-            counts,
-            first_rows,
-        })
+        self.rows.bytes()
     }
 }
 
-#[tactic(auto, using(cla_group::proofs::Tuples::tuples_count))]
 impl<N: Number, const W: usize> Group<N> for Codes<N, W> {
-    ghost use Rattle.cla_group.proofs.Tuples.{group_with_values};
+    ghost columns = { λ g. g.dictionary.width };
 
-    ghost columns = { λ g. g.width };
+    ghost codes = { λ g. g.rows.value };
 
-    ghost codes = { λ g. g.codes.items };
-
-    ghost dictionary = { λ g. tuples_of g.width g.tuples (map N.value g.values.items) };
+    ghost dictionary = { λ g. g.dictionary.tuples };
 
     fn rows(&self) -> u32 {
-        self.codes.len() as u32
+        self.rows.len()
     }
 
     fn width(&self) -> u32 {
-        self.width
+        self.dictionary.width()
     }
 
     fn tuples(&self) -> u32 {
-        self.tuples
+        self.dictionary.len()
     }
 
     fn value(&self, k: u32, c: u32) -> N {
-        self.values[k as usize * self.width as usize + c as usize]
+        self.dictionary.value(k, c)
     }
 
     fn occurrences(&self, k: u32) -> u32 {
-        self.counts[k as usize]
+        self.rows.occurrences(k)
     }
 
     fn first_row(&self, k: u32) -> u32 {
-        self.first_rows[k as usize]
+        self.rows.first_row(k)
     }
 
+    #[inline(always)]
     fn code_at(&self, i: u32) -> u32 {
-        self.codes[i as usize]
+        self.rows.code_at(i)
     }
 
-    ghost laws = { λ g. group_with_values N.BITS N.value N.in_range g.width g.tuples g.codes.items g.values.items g.are };
+    fn read_codes(&self, into: &mut [u32]) {
+        self.rows.read(0, into)
+    }
+
+    ghost laws = { λ g. g.is };
+}
+
+impl<N: Number, const W: usize> Owned<N> for Codes<N, W> {
+    fn slice_rows(&self, alloc: Global, a: u32, b: u32) -> Result<Self, Memory> {
+        let rows = self.rows.codes_between(alloc, a, b)?;
+        let KeptRows { codes, dictionary } = keep_rows(alloc, &rows, &self.dictionary)?;
+        Ok(Codes::of_codes(alloc, dictionary, &codes)?)
+    }
+
+    fn project(&self, alloc: Global, places: &[u32]) -> Result<Self, Memory> {
+        Ok(Codes {
+            dictionary: self.dictionary.project(alloc, places)?,
+            rows: self.rows.clone()?,
+        })
+    }
+
+    fn with_values(&self, _alloc: Global, values: Vec<N>) -> Result<Self, Memory>
+        requires whole { length values.items ≡ length self.now.dictionary.tuples * self.now.dictionary.width }
+        ensures columns { IfOk result (λ g. g.dictionary.width ≡ self.now.dictionary.width) }
+        ensures codes { IfOk result (λ g. g.rows.value ≡ self.now.rows.value) }
+        ensures dictionary { IfOk result (λ g. g.dictionary.tuples ≡ tuples_of self.now.dictionary.width (length self.now.dictionary.tuples) (map N.value values.items)) }
+    {
+        Ok(Codes {
+            dictionary: self.dictionary.with_values(values),
+            rows: self.rows.clone()?,
+        })
+    }
 }

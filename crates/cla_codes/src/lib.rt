@@ -1,9 +1,8 @@
 //! Groups of columns with one code for each row.
 #![tactic(auto)]
 
+mod byte_codes;
+mod bytes;
 mod codes;
-mod owned;
-#[cfg(test)]
-mod tests;
 
 pub use codes::Codes;

@@ -1,11 +1,11 @@
 -- What is known of dictionaries.
 use Rattle.std.proofs.Common.{◌≡◌, ℕ, ℤ, pos, ◌+◌, ◌-◌, ◌*◌, ◌<◌, ◌≤◌, List, [], length, map, take, drop, get_or, ap, sym, ◌∙◌, arith}
-use Rattle.std.proofs.Math.Nat.{mul-le-mul_left, mul-le-mul_right}
+use Rattle.std.proofs.Math.Nat.{mul-le-mul_right}
 use Rattle.std.proofs.lemmas.List.{ext_get_or, length-map, get_or-map, length-take-le, length-drop, get_or-take, get_or-drop}
 use Rattle.std.proofs.lemmas.List.FromFn.{length-map-range_with_len, get_or-map-range_with_len}
 use Rattle.cla_spec.specs.Numbers.{InRange}
 use Rattle.cla_spec.specs.Matrix.{most_cells}
-use Rattle.cla_group.specs.Groups.{at, code_of, value_of}
+use Rattle.cla_group.specs.Groups.{at, code_of}
 use Rattle.cla_group.specs.Tuples.{tuple_at, tuples_of}
 use Rattle.cla_group.specs.Renaming.{AreInOrder}
 use Rattle.cla_group.proofs.Projections.{stretch_item}

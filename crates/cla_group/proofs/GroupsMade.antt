@@ -2,9 +2,8 @@
 use Rattle.std.proofs.Common.{refl, ◌≡◌, ℕ, ℤ, pos, ◌+◌, ◌-◌, ◌*◌, ◌<◌, ◌≤◌, List, [], length, map, take, drop, get_or, ap, sym, ◌∙◌, arith}
 use Rattle.std.proofs.Math.Nat.{mul-le-mul_left, mul-le-mul_right}
 use Rattle.std.proofs.lemmas.List.{length-map, get_or-map}
-use Rattle.cla_spec.specs.Numbers.{InRange}
 use Rattle.cla_spec.specs.Matrix.{most_cells}
-use Rattle.cla_group.specs.Groups.{at, code_of, value_of, cell_of, IsGroup}
+use Rattle.cla_group.specs.Groups.{at, code_of, value_of, IsGroup}
 use Rattle.cla_group.specs.Rows.{AreRowsFrom, ArePlaces, projected}
 use Rattle.cla_group.specs.Renaming.{AreRenamed}
 use Rattle.cla_group.proofs.Coded.{rows_between, row_between}
@@ -94,6 +93,7 @@ rows_kept bits codes from new order kept are is =
     let count : length (in_order order from.tuples) ≡ length order = length-map order (λ k. get_or from.tuples k []) in
     rw is (record {
       width = refl;
+      few = rw count are.few;
       numbered = λ k there. are.rising k (k + 1) (omega arith) (rw count at there);
       group = λ a b all some within cut group. group_sliced bits from.width a b all from.tuples new order some within group (rw cut at are);
       rows = λ a b all some within cut group. rows_sliced bits from.width a b all from.tuples new order within group (rw cut at are);

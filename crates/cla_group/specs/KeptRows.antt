@@ -9,6 +9,7 @@ use Rattle.cla_group.specs.Dictionaries.{DictionaryOf}
 -- whichever group they were cut from, they are a group, and are its rows
 pub record AreKeptRows (bits : ℕ) (codes : List ℕ) (from : DictionaryOf) (codes' : List ℕ) (kept : DictionaryOf) : Type 0 where
   pub width : kept.width ≡ from.width
+  pub few : length kept.tuples ≤ length from.tuples
   pub numbered : AreNumbered codes' (length kept.tuples)
   pub group : (a b : ℕ) (all : List ℕ) → a < b → b ≤ length all → codes ≡ take (b - a) (drop a all) →
       IsGroup bits from.width all from.tuples → IsGroup bits kept.width codes' kept.tuples

@@ -8,8 +8,8 @@ ghost use Rattle.cla_group.specs.Listed.{rest_of};
 ghost use Rattle.cla_group.specs.Dictionaries.{AreTuples, AreValues, in_order};
 
 use crate::projected::projected_values;
-use crate::rest::rest_tuple;
 use crate::renaming::values_in_order;
+use crate::rest::rest_tuple;
 use cla_num::{Memory, Number};
 use std::alloc::Global;
 use std::marker::Model;
@@ -26,7 +26,7 @@ impl<N: Number> Model for Dictionary<N> {
     ghost use Rattle.std.specs.Prelude.{length, map};
     ghost use Rattle.cla_group.specs.Tuples.{tuples_of};
     ghost use Rattle.cla_group.specs.Listed.{rest_of};
-ghost use Rattle.cla_group.specs.Dictionaries.{DictionaryOf, AreValues};
+    ghost use Rattle.cla_group.specs.Dictionaries.{DictionaryOf, AreValues};
 
     ghost Value = { DictionaryOf };
 

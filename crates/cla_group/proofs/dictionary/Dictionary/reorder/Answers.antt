@@ -1,4 +1,4 @@
-use Rattle.std.proofs.Common.{◌≡◌, ◌<◌, ◌∙◌, ℕ, ℤ, List, length, map, ap, sym, arith}
+use Rattle.std.proofs.Common.{◌≡◌, ◌<◌, ℕ, ℤ, List, length, map, ap, arith}
 use Rattle.cla_group.specs.Groups.{code_of}
 use Rattle.cla_group.specs.Tuples.{tuples_of}
 use Rattle.cla_group.specs.Renaming.{AreInOrder}

@@ -1,4 +1,4 @@
-use Rattle.std.proofs.Common.{◌≡◌, ◌<◌, length, map, arith}
+use Rattle.std.proofs.Common.{◌<◌, length, map, arith}
 use Rattle.cla_group.specs.Tuples.{tuples_of}
 use Rattle.cla_group.proofs.Tuples.{tuples_count}
 use Rattle.cla_group.proofs.Coded.{value_read}

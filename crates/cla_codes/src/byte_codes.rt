@@ -1,0 +1,111 @@
+//! Rows that keep one code each, in bytes.
+
+ghost use Rattle.std.specs.Prelude.{◌≡◌, ◌<◌, ◌≤◌, ◌+◌, ◌-◌, ℕ, List, length, take, drop, IfOk};
+ghost use Rattle.cla_spec.specs.Matrix.{most_cells};
+ghost use Rattle.cla_group.specs.Groups.{code_of, occurrences_of, first_row_of};
+ghost use Rattle.cla_codes.specs.Widths.{FitsWidth};
+ghost use Rattle.cla_codes.specs.Bytes.{AreWritten};
+
+use crate::bytes::{read_code, write_codes};
+use cla_group::{Occurrences, counted};
+use cla_num::Memory;
+use std::alloc::Global;
+use std::marker::Model;
+
+/// The code of each row in W bytes, and for each code how many rows have it and which is the first.
+#[derive(Drop)]
+pub struct ByteCodes<const W: usize> {
+    rows: u32,
+    bytes: Vec<u8>,
+    occurrences: Occurrences,
+}
+
+impl<const W: usize> Model for ByteCodes<W> {
+    ghost use Rattle.std.specs.Prelude.{List, ℕ};
+    ghost use Rattle.cla_codes.specs.Bytes.{codes_in, AreKept};
+
+    ghost Value = { List ℕ };
+
+    ghost view = { λ r. codes_in W r.bytes.items r.rows };
+
+    ghost invariant = { λ r. AreKept W r.rows (codes_in W r.bytes.items r.rows) r.bytes.items r.occurrences.counts.items r.occurrences.first_rows.items };
+}
+
+impl<const W: usize> ByteCodes<W> {
+    /// The bytes of these codes, which are below `tuples`.
+    pub fn from_codes(alloc: Global, codes: &[u32], tuples: u32) -> Result<ByteCodes<W>, Memory>
+        requires below { (i : ℕ) → i < length codes.now → code_of codes.now i < tuples }
+        requires few { length codes.now ≤ most_cells }
+        requires fits { FitsWidth W tuples }
+        ensures { IfOk result (λ r. r ≡ codes.now) }
+    {
+        let bytes = write_codes::<W>(alloc, codes)?;
+        let occurrences = counted(alloc, codes, tuples)?;
+        Ok(ByteCodes {
+            rows: codes.len() as u32,
+            bytes,
+            occurrences,
+        })
+    }
+
+    /// How many rows there are.
+    pub fn len(&self) -> u32
+        ensures { result ≡ length self.now }
+    {
+        self.rows
+    }
+
+    /// How many rows have code k.
+    pub fn occurrences(&self, k: u32) -> u32
+        requires { 0 < occurrences_of self.now k }
+        ensures { result ≡ occurrences_of self.now k }
+    {
+        self.occurrences.counts[k as usize]
+    }
+
+    /// The first row that has code k.
+    pub fn first_row(&self, k: u32) -> u32
+        requires { 0 < occurrences_of self.now k }
+        ensures { result ≡ first_row_of self.now k }
+    {
+        self.occurrences.first_rows[k as usize]
+    }
+
+    /// The code of row i.
+    #[inline(always)]
+    pub fn code_at(&self, i: u32) -> u32
+        requires { i < length self.now }
+        ensures { result ≡ code_of self.now i }
+    {
+        read_code::<W>(&self.bytes, i)
+    }
+
+    /// The codes of the rows from row `first` on, as many as `into` has places.
+    pub fn read(&self, first: u32, into: &mut [u32])
+        requires within { first + length into.old ≤ length self.now }
+        ensures { into.new ≡ take (length into.old) (drop first self.now) }
+    {
+        let bytes = &self.bytes;
+        for i in 0..into.len() {
+            into[i] = read_code::<W>(bytes, first + i as u32);
+        }
+    }
+
+    /// The codes of the rows from row a to before row b.
+    pub fn codes_between(&self, alloc: Global, a: u32, b: u32) -> Result<Vec<u32>, Memory>
+        requires order { a ≤ b }
+        requires within { b ≤ length self.now }
+        ensures { IfOk result (λ codes. codes.items ≡ take (b - a) (drop a self.now)) }
+    {
+        let mut codes = vec![in alloc; 0; (b - a) as usize]?;
+        self.read(a, &mut codes);
+        Ok(codes)
+    }
+
+    /// The bytes of all codes, one row after the other.
+    pub fn bytes(&self) -> &[u8]
+        ensures { AreWritten W (length self.now) self.now result.now }
+    {
+        &self.bytes
+    }
+}
