@@ -1,46 +1,76 @@
 -- Groups of any kind, as contracts see them.
-use Rattle.std.specs.Prelude.{◌≡◌, ℕ, ℤ, ◌<◌, List, length, map}
+use Rattle.std.specs.Prelude.{◌≡◌, ℕ, ℤ, ◌<◌, ◌^◌, List, length, map, Option, None, nat_le, if◌then◌else◌}
 use Rattle.std.specs.List.{range_with_len}
+use Rattle.std.specs.declared.cmp.Ord as ord
+use Rattle.std.specs.declared.cmp.PartialEq as partial_eq
+use Rattle.std.specs.declared.cmp.PartialOrd as partial_ord
+use Rattle.std.specs.declared.hash.Hash as hash
+use Rattle.cla_num.specs.declared.number.Number as number
 use Rattle.cla_group.specs.declared.kind.Kind.{Kind}
 use Rattle.cla_group.specs.declared.kind.Kind.TheVariants as kind
 use Rattle.cla_group.specs.Groups.{cell_of}
-use Rattle.cla_group.specs.Tuples.{tuples_of}
-use Rattle.cla_offsets.specs.Lists.{codes_of_lists}
-use Rattle.cla_runs.specs.Kept.{codes_of}
+use Rattle.cla_group.specs.Listed.{rest_of}
+use Rattle.cla_plain.specs.Members.{plain_columns, plain_codes, plain_dictionary}
+use Rattle.cla_codes.specs.Members.{codes_columns, codes_codes, codes_dictionary}
+use Rattle.cla_offsets.specs.Members.{offsets_columns, offsets_codes, offsets_dictionary, offsets_rest}
+use Rattle.cla_runs.specs.Members.{runs_columns, runs_codes, runs_dictionary, runs_rest}
 use Rattle.cla_coded.specs.declared.any_group.AnyGroup.{AnyGroup}
 use Rattle.cla_coded.specs.declared.any_group.AnyGroup.TheVariants.{Plain, Codes1, Codes2, Codes4, Offsets, Runs}
 
-abbrev pub any_kind : {N : Type 0} → AnyGroup N → Kind
-any_kind (Plain g) = kind.Plain
-any_kind (Codes1 g) = kind.Codes
-any_kind (Codes2 g) = kind.Codes
-any_kind (Codes4 g) = kind.Codes
-any_kind (Offsets g) = kind.Offsets
-any_kind (Runs g) = kind.Runs
+-- how a group is kept: its kind, how many bytes a row's code takes, and the tuple that no list names; 0 and none for the
+-- kinds that have no such thing
+pub record FormOf : Type 0 where
+  pub kind : Kind
+  pub code_bytes : ℕ
+  pub rest : Option ℕ
 
-abbrev pub any_columns : {N : Type 0} → AnyGroup N → ℕ
-any_columns (Plain g) = g.width
-any_columns (Codes1 g) = g.width
-any_columns (Codes2 g) = g.width
-any_columns (Codes4 g) = g.width
-any_columns (Offsets g) = g.width
-any_columns (Runs g) = g.width
+-- the fewest bytes, of one, two and four, that can name so many tuples
+abbrev pub least_code_bytes : ℕ → ℕ
+least_code_bytes tuples = if nat_le tuples (2 ^ 8) then 1 else if nat_le tuples (2 ^ 16) then 2 else 4
 
-abbrev pub any_codes : {N : Type 0} → AnyGroup N → List ℕ
-any_codes (Plain g) = range_with_len 0 g.rows
-any_codes (Codes1 g) = g.codes.items
-any_codes (Codes2 g) = g.codes.items
-any_codes (Codes4 g) = g.codes.items
-any_codes (Offsets g) = codes_of_lists g.lists.items g.rows g.tuples g.rest
-any_codes (Runs g) = codes_of g.rows g.tuples g.lists.items
+-- how a group of this kind is kept when it is made of these codes and tuples
+abbrev pub form_of : Kind → List ℕ → List (List ℤ) → FormOf
+form_of kind.Plain codes tuples = record { kind = kind.Plain; code_bytes = 0; rest = None }
+form_of kind.Codes codes tuples = record { kind = kind.Codes; code_bytes = least_code_bytes (length tuples); rest = None }
+form_of kind.Offsets codes tuples = record { kind = kind.Offsets; code_bytes = 0; rest = rest_of codes tuples }
+form_of kind.Runs codes tuples = record { kind = kind.Runs; code_bytes = 0; rest = rest_of codes tuples }
 
-abbrev pub any_dictionary : {N : Type 0} → (N → ℤ) → AnyGroup N → List (List ℤ)
-any_dictionary value (Plain g) = tuples_of g.width g.rows (map value g.values.items)
-any_dictionary value (Codes1 g) = tuples_of g.width g.tuples (map value g.values.items)
-any_dictionary value (Codes2 g) = tuples_of g.width g.tuples (map value g.values.items)
-any_dictionary value (Codes4 g) = tuples_of g.width g.tuples (map value g.values.items)
-any_dictionary value (Offsets g) = tuples_of g.width g.tuples (map value g.values.items)
-any_dictionary value (Runs g) = tuples_of g.width g.tuples (map value g.values.items)
+-- how some rows of a group are kept, with these codes and tuples: as the group, and the rest is found anew
+abbrev pub form_cut : FormOf → List ℕ → List (List ℤ) → FormOf
+form_cut form codes tuples = record { kind = form.kind; code_bytes = form.code_bytes; rest = (form_of form.kind codes tuples).rest }
+
+module _ {N : Type 0} {n : number.Ghosts N} {o : ord.Ghosts N} {e : partial_eq.Ghosts N} {p : partial_ord.Ghosts N} {h : hash.Ghosts N} where
+  abbrev pub any_columns : AnyGroup N n o e p h → ℕ
+  any_columns (Plain g) = plain_columns g
+  any_columns (Codes1 g) = codes_columns g
+  any_columns (Codes2 g) = codes_columns g
+  any_columns (Codes4 g) = codes_columns g
+  any_columns (Offsets g) = offsets_columns g
+  any_columns (Runs g) = runs_columns g
+
+  abbrev pub any_codes : AnyGroup N n o e p h → List ℕ
+  any_codes (Plain g) = plain_codes g
+  any_codes (Codes1 g) = codes_codes g
+  any_codes (Codes2 g) = codes_codes g
+  any_codes (Codes4 g) = codes_codes g
+  any_codes (Offsets g) = offsets_codes g
+  any_codes (Runs g) = runs_codes g
+
+  abbrev pub any_dictionary : AnyGroup N n o e p h → List (List ℤ)
+  any_dictionary (Plain g) = plain_dictionary g
+  any_dictionary (Codes1 g) = codes_dictionary g
+  any_dictionary (Codes2 g) = codes_dictionary g
+  any_dictionary (Codes4 g) = codes_dictionary g
+  any_dictionary (Offsets g) = offsets_dictionary g
+  any_dictionary (Runs g) = runs_dictionary g
+
+  abbrev pub any_form : AnyGroup N n o e p h → FormOf
+  any_form (Plain g) = record { kind = kind.Plain; code_bytes = 0; rest = None }
+  any_form (Codes1 g) = record { kind = kind.Codes; code_bytes = 1; rest = None }
+  any_form (Codes2 g) = record { kind = kind.Codes; code_bytes = 2; rest = None }
+  any_form (Codes4 g) = record { kind = kind.Codes; code_bytes = 4; rest = None }
+  any_form (Offsets g) = record { kind = kind.Offsets; code_bytes = 0; rest = offsets_rest g }
+  any_form (Runs g) = record { kind = kind.Runs; code_bytes = 0; rest = runs_rest g }
 
 -- the group that is made of these codes and tuples: in a plain one row i has code i and the tuple of its code, and in the
 -- others codes and tuples are these
@@ -51,7 +81,8 @@ HasCodes kind.Codes codes tuples codes' tuples' width = (codes' ≡ codes) × (t
 HasCodes kind.Offsets codes tuples codes' tuples' width = (codes' ≡ codes) × (tuples' ≡ tuples)
 HasCodes kind.Runs codes tuples codes' tuples' width = (codes' ≡ codes) × (tuples' ≡ tuples)
 
-pub record IsGroupFrom (wanted : Kind) (width : ℕ) (codes : List ℕ) (tuples : List (List ℤ)) (made : Kind) (columns : ℕ) (codes' : List ℕ) (tuples' : List (List ℤ)) : Type 0 where
-  pub kind : made ≡ wanted
+-- a group of this kind that is made of these codes and tuples
+pub record IsGroupFrom (kind : Kind) (width : ℕ) (codes : List ℕ) (tuples : List (List ℤ)) (form : FormOf) (columns : ℕ) (codes' : List ℕ) (tuples' : List (List ℤ)) : Type 0 where
+  pub form_is : form ≡ form_of kind codes tuples
   pub columns_are : columns ≡ width
-  pub has : HasCodes wanted codes tuples codes' tuples' width
+  pub has : HasCodes kind codes tuples codes' tuples' width

@@ -1,1 +1,2 @@
 pub mod PlainGroups
+pub mod Shapes
