@@ -1,3 +1,2 @@
-pub mod RunAt
-pub mod Made
-pub mod Smalls
+pub mod RunBounds
+pub mod RunsMade

@@ -1,1 +1,3 @@
-pub mod Kept
+pub mod RunBounds
+pub mod CodeRuns
+pub mod RunLists

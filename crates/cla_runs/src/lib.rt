@@ -1,10 +1,5 @@
-//! Groups of columns whose rows are kept as runs.
+//! Groups of columns whose rows are kept as runs (PVLDB 9(12): run-length encoding, RLE).
 #![tactic(auto)]
 
-mod copies;
-mod owned;
-mod runs;
-#[cfg(test)]
-mod tests;
+mod run_list;
 
-pub use runs::{Run, Runs};
