@@ -1,2 +1,3 @@
 pub mod RunBounds
 pub mod RunsMade
+pub mod WalkSteps

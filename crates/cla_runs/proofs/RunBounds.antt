@@ -61,6 +61,13 @@ module _ {rows : ℕ} {codes : List ℕ} {rest : ℕ} {begins ends keys : List �
     same = λ i from before. are.in_run n i there from before;
   }
 
+  -- what holds of all codes holds of the keys
+  pub key_below : {tuples : ℕ} → rows ≤ length codes → ((i : ℕ) → i < length codes → code_of codes i < tuples) → (n : ℕ) → n < length keys → code_of keys n < tuples
+  key_below few below n there =
+      let run = run_stretch few n there in
+      let some = are.not_empty n there in
+      omega (arith, below (code_of begins n) (omega (arith, some, run.within)), run.same (code_of begins n) (omega arith) some)
+
   -- each row stands at a run
   pub ended_is : (i n : ℕ) → IsAtRun ends (length keys) i n → position_or_len (λ end. ltb i end) ends ≡ n + 1
   ended_is i n is =

@@ -1,3 +1,5 @@
 pub mod RunBounds
 pub mod CodeRuns
 pub mod RunLists
+pub mod Rows
+pub mod Walks

@@ -3,9 +3,7 @@
 -- end n to before begin n, have the rest; so end 0 is row 0, and the last begin is where the rows end.
 use Rattle.std.specs.Prelude.{◌≡◌, ℕ, ◌+◌, ◌-◌, ◌<◌, ◌≤◌, List, length, map, nat_lt, nat_le, if◌then◌else◌}
 use Rattle.std.specs.List.{range_with_len, position_or_len}
-use Rattle.cla_spec.specs.Matrix.{most_cells}
 use Rattle.cla_group.specs.Groups.{code_of}
-use Rattle.cla_group.specs.Counted.{AreCounted}
 
 -- the rows from row a to before row b have code k
 pub record IsStretch (codes : List ℕ) (k a b : ℕ) : Type 0 where
@@ -43,10 +41,3 @@ code_in_runs rest begins ends keys i = let n = ended_by ends i in if nat_le (cod
 -- the codes of rows, by their runs
 unfoldable pub codes_in_runs : ℕ → List ℕ → List ℕ → List ℕ → List ℕ
 codes_in_runs rest begins ends keys = map (code_in_runs rest begins ends keys) (range_with_len 0 (code_of begins (length keys)))
-
--- what is kept of codes: their runs, and the rows of each code counted
-pub record AreKept (codes : List ℕ) (rest : ℕ) (begins ends keys counts first_rows : List ℕ) : Type 0 where
-  pub few : length codes ≤ most_cells
-  pub runs : AreRuns (length codes) codes rest begins ends keys
-  pub in_tuples : (i : ℕ) → i < length codes → code_of codes i < length counts
-  pub counted : AreCounted codes (length counts) counts first_rows

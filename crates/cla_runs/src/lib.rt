@@ -2,4 +2,7 @@
 #![tactic(auto)]
 
 mod run_list;
+mod run_rows;
+mod walks;
 
+pub use run_rows::RunRows;
