@@ -1,3 +1,4 @@
 pub mod RunBounds
 pub mod RunsMade
 pub mod WalkSteps
+pub mod RunsOfCode

@@ -47,6 +47,13 @@ module _ {rows : ℕ} {codes : List ℕ} {rest : ℕ} {begins ends keys : List �
     | inr past ↦ (let e : n ≡ length keys = omega (arith, past, there) in omega (arith, ap (code_of begins) e, are.last))
   ]
 
+  -- a run begins before row b, if it is none past the last
+  pub run_there : (n b : ℕ) → n ≤ length keys → code_of begins n < b → b ≤ rows → n < length keys
+  run_there n b there before within = elim (cases_lt n (length keys)) [
+    | inl below ↦ below
+    | inr past ↦ (let e : n ≡ length keys = omega (arith, past, there) in absurd (omega (arith, before, within, are.last, ap (code_of begins) e)))
+  ]
+
   pub gap_stretch : rows ≤ length codes → (n : ℕ) → n ≤ length keys → IsStretch codes rest (code_of ends n) (code_of begins n)
   gap_stretch few n there = record {
     order = are.rising n there;
@@ -101,10 +108,7 @@ module _ {rows : ℕ} {codes : List ℕ} {rest : ℕ} {begins ends keys : List �
   -- a row that stands in a run has its code, and another has the rest
   pub code_in_run : (i n : ℕ) → i < rows → IsAtRun ends (length keys) i n → code_of begins n ≤ i → (n < length keys) × (code_of codes i ≡ code_of keys n)
   code_in_run i n row is from =
-      let there : n < length keys = (elim (cases_lt n (length keys)) [
-        | inl below ↦ below
-        | inr past ↦ (let e : n ≡ length keys = omega (arith, past, is.there) in absurd (omega (arith, from, row, are.last, ap (code_of begins) e)))
-      ]) in
+      let there = run_there n (i + 1) is.there (omega (arith, from)) (omega (arith, row)) in
       (there, are.in_run n i there from (is.before there))
 
   pub code_in_gap : (i n : ℕ) → IsAtRun ends (length keys) i n → i < code_of begins n → code_of codes i ≡ rest

@@ -8,3 +8,14 @@ pub record IsMaximalRun (codes : List ℕ) (k begin end : ℕ) : Type 0 where
   pub within : end ≤ length codes
   pub same : (i : ℕ) → begin ≤ i → i < end → code_of codes i ≡ k
   pub last : end < length codes → code_of codes end ≡ k → ⊥
+
+-- where the run of code k before run n ends; before the first run row 0
+abbrev pub IsPreviousEnd : List ℕ → ℕ → ℕ → ℕ → Type 0
+IsPreviousEnd codes k zero end = end ≡ 0
+IsPreviousEnd codes k (suc n) end = IsMaximalRun codes k (code_of (run_begins codes k) n) end
+
+-- run n of code k: how far behind the run before it begins, and how many rows it has
+pub record IsRun (codes : List ℕ) (k n gap size : ℕ) : Type 0 where
+  pub within : gap ≤ code_of (run_begins codes k) n
+  pub gap_is : IsPreviousEnd codes k n (code_of (run_begins codes k) n - gap)
+  pub run : IsMaximalRun codes k (code_of (run_begins codes k) n) (code_of (run_begins codes k) n + size)

@@ -4,6 +4,8 @@ ghost use Rattle.std.specs.Prelude.{◌≡◌, ◌≤◌, ◌<◌, ◌+◌, ◌-
 ghost use Rattle.cla_spec.specs.Matrix.{most_cells};
 ghost use Rattle.cla_num.specs.Bits.{IsSupported};
 ghost use Rattle.cla_group.specs.Groups.{at, code_of, occurrences_of, first_row_of, gathered, Scattered};
+ghost use Rattle.cla_group.specs.Listed.{run_begins};
+ghost use Rattle.cla_runs.specs.CodeRuns.{IsRun};
 
 use crate::run_list::{RunList, list_runs};
 use crate::walks::{gather_between, give_code, join_between, part_of};
@@ -11,6 +13,17 @@ use cla_group::{Join, Occurrences, counted};
 use cla_num::{Memory, Number, Wide};
 use std::alloc::Global;
 use std::marker::Model;
+
+/// A run of rows.
+#[derive(Clone, Copy, Debug, PartialEq, Eq)]
+pub struct Run {
+    /// How many rows there are between the run of the same code before and this one; before the first run,
+    /// from row 0.
+    pub gap: u32,
+
+    /// How many rows the run has.
+    pub length: u32,
+}
 
 /// The code of each row, by the maximal runs of rows with one code. One code, the rest, has no runs: its
 /// rows are those between the others'. Where the rest is no code, each row is in a run.
@@ -143,9 +156,9 @@ impl RunRows {
         requires { a + length into.old ≤ length self.now.codes }
         ensures { into.new ≡ take (length into.old) (drop a self.now.codes) }
     {
+        let mut n = self.runs.ended_by(a);
         let b = a + into.len() as u32;
         give_code(self.rest(), 0, b - a, into);
-        let mut n = self.runs.ended_by(a);
         while self.runs.begin(n) < b {
             let begin = self.runs.begin(n).max(a);
             let end = self.runs.end_before(n + 1).min(b);
@@ -163,5 +176,32 @@ impl RunRows {
         let mut codes = vec![in alloc; 0; (b - a) as usize]?;
         self.codes_into(a, &mut codes);
         Ok(codes)
+    }
+
+    /// How many maximal runs code k has, by a pass over all runs.
+    pub fn run_count(&self, k: u32) -> u32
+        requires { k ≡ self.now.rest → ⊥ }
+        ensures { result ≡ length (run_begins self.now.codes k) }
+    {
+        self.runs.count_of(k)
+    }
+
+    /// Run n of code k, both from 0, by a pass over all runs.
+    pub fn run(&self, k: u32, n: u32) -> Run
+        requires listed { k ≡ self.now.rest → ⊥ }
+        requires run { n < length (run_begins self.now.codes k) }
+        ensures { IsRun self.now.codes k n result.gap result.length }
+    {
+        let number = self.runs.number_of(k, n);
+        let begin = self.runs.begin(number);
+        let floor = if n == 0 {
+            0
+        } else {
+            self.runs.end_before(self.runs.number_of(k, n - 1) + 1)
+        };
+        Run {
+            gap: begin - floor,
+            length: self.runs.end_before(number + 1) - begin,
+        }
     }
 }

@@ -1,10 +1,9 @@
 //! Steps of walks over rows, each over rows that have one code.
 
-ghost use Rattle.std.specs.Prelude.{◌≡◌, ◌≤◌, ◌<◌, ◌+◌, ◌*◌, ℕ, length, map};
-ghost use Rattle.std.specs.Int.RustNames.{unsigned_abs};
+ghost use Rattle.std.specs.Prelude.{◌≡◌, ◌≤◌, ◌<◌, ◌+◌, ℕ, List, length, map};
 ghost use Rattle.cla_spec.specs.Matrix.{most_cells};
-ghost use Rattle.cla_num.specs.Bits.{IsSupported, value_bound};
-ghost use Rattle.cla_group.specs.Groups.{at, code_of};
+ghost use Rattle.cla_num.specs.Bits.{IsSupported};
+ghost use Rattle.cla_group.specs.Groups.{at, code_of, gathered_to};
 ghost use Rattle.cla_runs.specs.Walks.{JoinsOn, GathersOn};
 
 use cla_group::Join;
@@ -35,13 +34,13 @@ pub(crate) fn join_between<J: Join>(part: Wide, a: u32, b: u32, into: &mut [Wide
     }
 }
 
-// The sum with the items of the rows from row a to before row b.
+// The sum of a code's items before row a, with those of the rows from row a to before row b.
 pub(crate) fn gather_between<N: Number>(rows: &[N], a: u32, b: u32, sum: Wide) -> Wide
     requires bits { IsSupported N.BITS }
     requires few { length rows.now ≤ most_cells }
     requires order { a ≤ b }
     requires within { b ≤ length rows.now }
-    requires size { unsigned_abs sum ≤ a * value_bound }
+    requires sum { (codes : List ℕ) × (k : ℕ) × (sum ≡ gathered_to codes (map N.value rows.now) k a) }
     ensures { GathersOn (map N.value rows.now) a b sum result }
 {
     let mut total = sum;

@@ -4,11 +4,14 @@ use Rattle.std.specs.Int.RustNames.{unsigned_abs}
 use Rattle.cla_num.specs.Bits.{value_bound}
 use Rattle.cla_num.proofs.Sizes.{value_size, plus_size, fits_by_size}
 use Rattle.cla_group.specs.Groups.{at, gathered_to}
-use Rattle.cla_group.proofs.Gathered.{gathered_here}
+use Rattle.cla_group.proofs.Gathered.{gathered_here, gathered_size}
 use Rattle.cla_runs.proofs.walks.gather_between.Goals as goal
 
 pub loop-i-init : goal.loop-i-init
-loop-i-init g c = record { size = c.requires.size; so_far = λ codes k same is. is }
+loop-i-init g c =
+    let sum = c.requires.sum in
+    let size = gathered_size _ g.N.Number.value g.met.N.Number.in_range c.requires.bits sum.0 c.args.rows.now sum.1 c.args.a (omega (arith, c.requires.order, c.requires.within)) in
+    record { size = rw sum.2 size; so_far = λ codes k stretch is. is }
 
 pub plus-total-requires : goal.plus-total-requires
 plus-total-requires g c =
