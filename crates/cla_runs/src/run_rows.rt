@@ -194,13 +194,8 @@ impl RunRows {
     {
         let number = self.runs.number_of(k, n);
         let begin = self.runs.begin(number);
-        let floor = if n == 0 {
-            0
-        } else {
-            self.runs.end_before(self.runs.number_of(k, n - 1) + 1)
-        };
         Run {
-            gap: begin - floor,
+            gap: begin - self.runs.previous_end(k, n),
             length: self.runs.end_before(number + 1) - begin,
         }
     }
