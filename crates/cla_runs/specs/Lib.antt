@@ -3,3 +3,4 @@ pub mod CodeRuns
 pub mod RunLists
 pub mod Rows
 pub mod Walks
+pub mod Members

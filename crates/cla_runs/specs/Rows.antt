@@ -1,5 +1,5 @@
 -- What contracts see of rows that are kept as runs.
-use Rattle.std.specs.Prelude.{◌≡◌, ℕ, ◌<◌, ◌≤◌, List, length}
+use Rattle.std.specs.Prelude.{◌≡◌, ℕ, ◌<◌, ◌≤◌, List, length, Option, Some, None, nat_lt, if◌then◌else◌}
 use Rattle.cla_spec.specs.Matrix.{most_cells}
 use Rattle.cla_group.specs.Groups.{code_of}
 use Rattle.cla_group.specs.Counted.{AreCounted}
@@ -21,3 +21,7 @@ pub record AreKept (rows : RowsOf) (begins ends keys counts first_rows : List �
   pub runs : AreRuns (length rows.codes) rows.codes rows.rest begins ends keys
   pub in_tuples : (i : ℕ) → i < length rows.codes → code_of rows.codes i < rows.tuples
   pub counted : AreCounted rows.codes rows.tuples counts first_rows
+
+-- the code that no run names, if it is one
+abbrev pub rest_in : RowsOf → Option ℕ
+rest_in rows = if nat_lt rows.rest rows.tuples then Some rows.rest else None

@@ -3,6 +3,8 @@
 
 mod run_list;
 mod run_rows;
+mod runs;
 mod walks;
 
-pub use run_rows::RunRows;
+pub use run_rows::{Run, RunRows};
+pub use runs::Runs;
