@@ -1,5 +1,5 @@
 -- What contracts see of rows that are kept as runs.
-use Rattle.std.specs.Prelude.{◌≡◌, ℕ, ◌<◌, ◌≤◌, List, length, Option, Some, None, nat_lt, if◌then◌else◌}
+use Rattle.std.specs.Prelude.{ℕ, ◌<◌, ◌≤◌, List, length, Option, Some, None, nat_lt, if◌then◌else◌}
 use Rattle.cla_spec.specs.Matrix.{most_cells}
 use Rattle.cla_group.specs.Groups.{code_of}
 use Rattle.cla_group.specs.Counted.{AreCounted}

@@ -1,5 +1,5 @@
 -- Walks over rows, stretch by stretch: what has come of the rows before row `to`.
-use Rattle.std.specs.Prelude.{◌≡◌, ℕ, ℤ, ◌+◌, ◌-◌, ◌<◌, ◌≤◌, List, length}
+use Rattle.std.specs.Prelude.{◌≡◌, ℕ, ℤ, ◌+◌, ◌<◌, ◌≤◌, List, length}
 use Rattle.cla_group.specs.Groups.{at, code_of, gathered_to}
 use Rattle.cla_runs.specs.RunBounds.{IsStretch}
 

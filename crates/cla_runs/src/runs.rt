@@ -51,11 +51,7 @@ impl<N: Number> Runs<N> {
     }
 
     // The group of these codes of a dictionary.
-    fn of_rows(
-        alloc: Global,
-        codes: &[u32],
-        dictionary: Dictionary<N>,
-    ) -> Result<Runs<N>, Memory>
+    fn of_rows(alloc: Global, codes: &[u32], dictionary: Dictionary<N>) -> Result<Runs<N>, Memory>
         requires { IsGroup N.BITS dictionary.width codes.now dictionary.tuples }
         ensures dictionary { IfOk result (λ g. g.dictionary ≡ dictionary) }
         ensures codes { IfOk result (λ g. g.rows.value.codes ≡ codes.now) }
@@ -136,6 +132,10 @@ impl<N: Number> Group<N> for Runs<N> {
 
     fn code_at(&self, i: u32) -> u32 {
         self.rows.code_at(i)
+    }
+
+    fn read_codes(&self, into: &mut [u32]) {
+        self.rows.codes_into(0, into);
     }
 
     fn scatter(&self, parts: &[Wide], into: &mut [Wide]) {

@@ -1,7 +1,6 @@
-use Rattle.std.proofs.Common.{◌≡◌, ◌<◌, ◌≤◌, ◌+◌, ◌*◌, suc, pos, ◌+ℤ◌, ℤ, length, map, ap, sym, ◌∙◌, arith}
+use Rattle.std.proofs.Common.{◌≡◌, pos, ◌+ℤ◌, ℤ, map, ap, sym, ◌∙◌, arith}
 use Rattle.std.proofs.lemmas.List.{get_or-map}
 use Rattle.std.specs.Int.RustNames.{unsigned_abs}
-use Rattle.cla_num.specs.Bits.{value_bound}
 use Rattle.cla_num.proofs.Sizes.{value_size, plus_size, fits_by_size}
 use Rattle.cla_group.specs.Groups.{at, gathered_to}
 use Rattle.cla_group.proofs.Gathered.{gathered_here, gathered_size}

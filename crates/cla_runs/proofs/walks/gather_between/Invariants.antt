@@ -1,4 +1,4 @@
-use Rattle.std.proofs.Common.{◌≡◌, ◌<◌, ◌≤◌, ◌*◌, ℕ, List, map}
+use Rattle.std.proofs.Common.{◌≡◌, ◌≤◌, ◌*◌, ℕ, List, map}
 use Rattle.std.specs.Int.RustNames.{unsigned_abs}
 use Rattle.cla_num.specs.Bits.{value_bound}
 use Rattle.cla_group.specs.Groups.{gathered_to}

@@ -1,5 +1,4 @@
-use Rattle.std.proofs.Common.{◌≡◌, ◌<◌, ◌≤◌, ◌+◌, ◌∙◌, length, sym, ap, arith}
-use Rattle.cla_group.specs.Groups.{code_of}
+use Rattle.std.proofs.Common.{◌∙◌, length, sym, arith}
 use Rattle.cla_runs.proofs.RunBounds.{IsAtRun, ends_rise, at_run, code_in_run, code_in_gap}
 use Rattle.cla_runs.proofs.run_rows.RunRows.code_at.Goals.{After-ended_by-n}
 use Rattle.cla_runs.proofs.run_rows.RunRows.code_at.Goals as goal

@@ -1,4 +1,4 @@
-use Rattle.std.proofs.Common.{◌≡◌, ◌<◌, ◌≤◌, ◌+◌, ◌-◌, length}
+use Rattle.std.proofs.Common.{◌<◌, ◌≤◌, ◌+◌, ◌-◌, length}
 use Rattle.cla_group.specs.Groups.{code_of}
 use Rattle.cla_runs.specs.Walks.{AreCodedTo}
 use Rattle.cla_runs.proofs.run_rows.RunRows.codes_into.Given as goal

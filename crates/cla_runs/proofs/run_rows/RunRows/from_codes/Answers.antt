@@ -1,5 +1,5 @@
-use Rattle.std.proofs.Common.{◌≡◌, length, ap, sym, ◌∙◌, refl}
-use Rattle.cla_runs.specs.Rows.{RowsOf, rows_in_runs, AreKept}
+use Rattle.std.proofs.Common.{◌≡◌, refl}
+use Rattle.cla_runs.specs.Rows.{rows_in_runs}
 use Rattle.cla_runs.proofs.RunBounds.{codes_are}
 use Rattle.cla_runs.proofs.run_rows.RunRows.from_codes.Goals as goal
 

@@ -1,9 +1,6 @@
-use Rattle.std.proofs.Common.{◌≡◌, ◌<◌, ◌≤◌, ◌+◌, ◌*◌, length, map, length-set, refl, ap, sym, ◌∙◌, arith, rules, pos}
-use Rattle.std.specs.Int.RustNames.{unsigned_abs}
+use Rattle.std.proofs.Common.{◌≡◌, ◌<◌, ◌≤◌, length, map, refl, sym, ◌∙◌, arith, pos}
 use Rattle.std.proofs.lemmas.List.{get_or_default}
-use Rattle.cla_num.specs.Bits.{value_bound}
-use Rattle.cla_group.specs.Groups.{at, code_of, gathered_to}
-use Rattle.cla_group.proofs.Gathered.{gathered_size}
+use Rattle.cla_group.specs.Groups.{gathered_to}
 use Rattle.cla_runs.specs.RunBounds.{IsStretch}
 use Rattle.cla_runs.specs.Walks.{AreGatheredTo}
 use Rattle.cla_runs.proofs.RunBounds.{gap_stretch, run_stretch, key_below}

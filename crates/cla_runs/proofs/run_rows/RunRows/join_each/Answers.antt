@@ -1,5 +1,5 @@
-use Rattle.std.proofs.Common.{◌≡◌, ◌<◌, ◌≤◌, ◌+◌, length, refl, ap, sym, ◌∙◌, arith, rules}
-use Rattle.cla_group.specs.Groups.{at, code_of}
+use Rattle.std.proofs.Common.{◌≡◌, ◌<◌, ◌≤◌, length, refl, ap, ◌∙◌, arith}
+use Rattle.cla_group.specs.Groups.{at}
 use Rattle.cla_runs.specs.RunBounds.{IsStretch}
 use Rattle.cla_runs.specs.Walks.{AreJoinedTo}
 use Rattle.cla_runs.proofs.RunBounds.{gap_stretch, run_stretch}

@@ -1,4 +1,4 @@
-use Rattle.std.proofs.Common.{◌≡◌, ◌≤◌, length, sym, ◌∙◌, arith}
+use Rattle.std.proofs.Common.{sym, ◌∙◌, arith}
 use Rattle.cla_runs.proofs.RunBounds.{runs_few}
 use Rattle.cla_runs.proofs.RunsOfCode.{begins_count}
 use Rattle.cla_runs.proofs.run_rows.RunRows.run_count.Goals as goal
