@@ -1,3 +1,5 @@
-pub mod RunAt
-pub mod Made
-pub mod Smalls
+pub mod RunBounds
+pub mod RunsMade
+pub mod WalkSteps
+pub mod RunsOfCode
+pub mod RestKept

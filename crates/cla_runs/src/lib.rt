@@ -1,10 +1,10 @@
-//! Groups of columns whose rows are kept as runs.
+//! Groups of columns whose rows are kept as runs (PVLDB 9(12): run-length encoding, RLE).
 #![tactic(auto)]
 
-mod copies;
-mod owned;
+mod run_list;
+mod run_rows;
 mod runs;
-#[cfg(test)]
-mod tests;
+mod walks;
 
-pub use runs::{Run, Runs};
+pub use run_rows::{Run, RunRows};
+pub use runs::Runs;

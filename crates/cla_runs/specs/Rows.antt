@@ -1,0 +1,27 @@
+-- What contracts see of rows that are kept as runs.
+use Rattle.std.specs.Prelude.{ℕ, ◌<◌, ◌≤◌, List, length, Option, Some, None, nat_lt, if◌then◌else◌}
+use Rattle.cla_spec.specs.Matrix.{most_cells}
+use Rattle.cla_group.specs.Groups.{code_of}
+use Rattle.cla_group.specs.Counted.{AreCounted}
+use Rattle.cla_runs.specs.RunBounds.{AreRuns, codes_in_runs}
+
+-- the code of each row, how many codes there are, and the one that has no runs; if it is no code, each row is in a run
+pub record RowsOf : Type 0 where
+  pub codes : List ℕ
+  pub tuples : ℕ
+  pub rest : ℕ
+
+-- the rows that have these runs, with a count for each code
+abbrev pub rows_in_runs : ℕ → List ℕ → List ℕ → List ℕ → List ℕ → RowsOf
+rows_in_runs rest begins ends keys counts = record { codes = codes_in_runs rest begins ends keys; tuples = length counts; rest = rest }
+
+-- what is kept of rows: their runs, and how many have each code, and which is the first
+pub record AreKept (rows : RowsOf) (begins ends keys counts first_rows : List ℕ) : Type 0 where
+  pub few : length rows.codes ≤ most_cells
+  pub runs : AreRuns (length rows.codes) rows.codes rows.rest begins ends keys
+  pub in_tuples : (i : ℕ) → i < length rows.codes → code_of rows.codes i < rows.tuples
+  pub counted : AreCounted rows.codes rows.tuples counts first_rows
+
+-- the code that no run names, if it is one
+abbrev pub rest_in : RowsOf → Option ℕ
+rest_in rows = if nat_lt rows.rest rows.tuples then Some rows.rest else None

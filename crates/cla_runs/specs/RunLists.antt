@@ -1,0 +1,12 @@
+-- Lists of runs.
+use Rattle.std.specs.Prelude.{ℕ, List}
+use Rattle.cla_runs.specs.RunBounds.{AreRuns, AreMore}
+use Rattle.cla_runs.specs.declared.run_list.RunList.{RunList}
+
+-- these are the maximal runs in the first rows of codes
+abbrev pub AreRunsIn : RunList → ℕ → List ℕ → ℕ → Type 0
+AreRunsIn runs rows codes rest = AreRuns rows codes rest runs.begins.items runs.ends.items runs.keys.items
+
+-- these were the runs in the first rows of some codes, and with the rows up to row `end`, which have one code, are these
+abbrev pub Adds : RunList → ℕ → ℕ → ℕ → RunList → Type 0
+Adds before code rest end after = (rows : ℕ) (codes : List ℕ) → AreRunsIn before rows codes rest → AreMore rows end code codes → AreRunsIn after end codes rest

@@ -1,0 +1,202 @@
+//! Rows that are kept as runs.
+
+ghost use Rattle.std.specs.Prelude.{◌≡◌, ◌≤◌, ◌<◌, ◌+◌, ◌-◌, ℕ, length, map, take, drop, IfOk};
+ghost use Rattle.cla_spec.specs.Matrix.{most_cells};
+ghost use Rattle.cla_num.specs.Bits.{IsSupported};
+ghost use Rattle.cla_group.specs.Groups.{at, code_of, occurrences_of, first_row_of, gathered, Scattered};
+ghost use Rattle.cla_group.specs.Listed.{run_begins};
+ghost use Rattle.cla_runs.specs.CodeRuns.{IsRun};
+
+use crate::run_list::{RunList, list_runs};
+use crate::walks::{gather_between, give_code, join_between, part_of};
+use cla_group::{Join, Occurrences, counted};
+use cla_num::{Memory, Number, Wide};
+use std::alloc::Global;
+use std::marker::Model;
+
+/// A run of rows.
+#[derive(Clone, Copy, Debug, PartialEq, Eq)]
+pub struct Run {
+    /// How many rows there are between the run of the same code before and this one; before the first run,
+    /// from row 0.
+    pub gap: u32,
+
+    /// How many rows the run has.
+    pub length: u32,
+}
+
+/// The code of each row, by the maximal runs of rows with one code. One code, the rest, has no runs: its
+/// rows are those between the others'. Where the rest is no code, each row is in a run.
+///
+/// It keeps 12 bytes a run and 8 a code.
+#[derive(Drop)]
+pub struct RunRows {
+    rest: u32,
+    runs: RunList,
+    occurrences: Occurrences,
+}
+
+impl Model for RunRows {
+    ghost use Rattle.cla_runs.specs.Rows.{RowsOf, rows_in_runs, AreKept};
+
+    ghost Value = { RowsOf };
+
+    ghost view = { λ r. rows_in_runs r.rest r.runs.begins.items r.runs.ends.items r.runs.keys.items r.occurrences.counts.items };
+
+    ghost invariant = { λ r. AreKept (rows_in_runs r.rest r.runs.begins.items r.runs.ends.items r.runs.keys.items r.occurrences.counts.items) r.runs.begins.items r.runs.ends.items r.runs.keys.items r.occurrences.counts.items r.occurrences.first_rows.items };
+}
+
+impl RunRows {
+    /// The runs of these codes, which are below `tuples`. It costs three passes over the rows.
+    pub fn from_codes(
+        alloc: Global,
+        codes: &[u32],
+        tuples: u32,
+        rest: u32,
+    ) -> Result<RunRows, Memory>
+        requires below { (i : ℕ) → i < length codes.now → code_of codes.now i < tuples }
+        requires few { length codes.now ≤ most_cells }
+        ensures { IfOk result (λ r. r ≡ record { codes = codes.now; tuples = tuples; rest = rest }) }
+    {
+        let runs = list_runs(alloc, codes, rest)?;
+        let occurrences = counted(alloc, codes, tuples)?;
+        Ok(RunRows {
+            rest,
+            runs,
+            occurrences,
+        })
+    }
+
+    /// How many rows there are.
+    pub fn len(&self) -> u32
+        ensures { result ≡ length self.now.codes }
+    {
+        self.runs.begin(self.runs.len())
+    }
+
+    /// The code that has no runs; if it is not below the number of codes, each row is in a run.
+    pub fn rest(&self) -> u32
+        ensures { result ≡ self.now.rest }
+    {
+        self.rest
+    }
+
+    /// How many rows have code k.
+    pub fn occurrences(&self, k: u32) -> u32
+        requires { k < self.now.tuples }
+        ensures { result ≡ occurrences_of self.now.codes k }
+    {
+        self.occurrences.counts[k as usize]
+    }
+
+    /// The first row that has code k; the number of rows where none has it.
+    pub fn first_row(&self, k: u32) -> u32
+        requires { k < self.now.tuples }
+        ensures { result ≡ first_row_of self.now.codes k }
+    {
+        self.occurrences.first_rows[k as usize]
+    }
+
+    /// The code of row i, by a binary search among the runs.
+    pub fn code_at(&self, i: u32) -> u32
+        requires { i < length self.now.codes }
+        ensures { result ≡ code_of self.now.codes i }
+    {
+        let n = self.runs.ended_by(i);
+        if self.runs.begin(n) <= i {
+            self.runs.key(n)
+        } else {
+            self.rest()
+        }
+    }
+
+    /// Joins each row's place with the part of the row's code, in one pass over the rows. Rows whose
+    /// part leaves all as they are are passed over.
+    pub fn join_each<J: Join>(&self, parts: &[Wide], into: &mut [Wide])
+        requires rows { length into.old ≡ length self.now.codes }
+        requires fits { (i : ℕ) → i < length into.old → J.can_join (at into.old i) (at parts.now (code_of self.now.codes i)) }
+        ensures { Scattered J.join self.now.codes parts.now into.old into.new }
+    {
+        let rest = part_of(parts, self.rest());
+        for n in 0..self.runs.len() {
+            let begin = self.runs.begin(n);
+            join_between::<J>(rest, self.runs.end_before(n), begin, into);
+            let part = part_of(parts, self.runs.key(n));
+            join_between::<J>(part, begin, self.runs.end_before(n + 1), into);
+        }
+        let last = self.runs.end_before(self.runs.len());
+        join_between::<J>(rest, last, self.len(), into);
+    }
+
+    /// The sum of the items of each code, in one pass over the rows.
+    pub fn gather<N: Number>(&self, rows: &[N], into: &mut [Wide])
+        requires bits { IsSupported N.BITS }
+        requires rows { length rows.now ≡ length self.now.codes }
+        requires tuples { length into.old ≡ self.now.tuples }
+        ensures { (k : ℕ) → k < length into.old → at into.new k ≡ gathered self.now.codes (map N.value rows.now) k }
+    {
+        into.fill(Wide::zero());
+        let mut rest = Wide::zero();
+        for n in 0..self.runs.len() {
+            let begin = self.runs.begin(n);
+            rest = gather_between(rows, self.runs.end_before(n), begin, rest);
+            let k = self.runs.key(n) as usize;
+            into[k] = gather_between(rows, begin, self.runs.end_before(n + 1), into[k]);
+        }
+        let last = self.runs.end_before(self.runs.len());
+        rest = gather_between(rows, last, self.len(), rest);
+        let k = self.rest() as usize;
+        if k < into.len() {
+            into[k] = rest;
+        }
+    }
+
+    /// Writes the codes of as many rows as `into` has places, from row a on, in one pass over these rows.
+    pub fn codes_into(&self, a: u32, into: &mut [u32])
+        requires { a + length into.old ≤ length self.now.codes }
+        ensures { into.new ≡ take (length into.old) (drop a self.now.codes) }
+    {
+        let mut n = self.runs.ended_by(a);
+        let b = a + into.len() as u32;
+        give_code(self.rest(), 0, b - a, into);
+        while self.runs.begin(n) < b {
+            let begin = self.runs.begin(n).max(a);
+            let end = self.runs.end_before(n + 1).min(b);
+            give_code(self.runs.key(n), begin - a, end - a, into);
+            n += 1;
+        }
+    }
+
+    /// The codes of the rows from row a to before row b, in one pass over these rows.
+    pub fn codes_between(&self, alloc: Global, a: u32, b: u32) -> Result<Vec<u32>, Memory>
+        requires order { a ≤ b }
+        requires within { b ≤ length self.now.codes }
+        ensures { IfOk result (λ made. made.items ≡ take (b - a) (drop a self.now.codes)) }
+    {
+        let mut codes = vec![in alloc; 0; (b - a) as usize]?;
+        self.codes_into(a, &mut codes);
+        Ok(codes)
+    }
+
+    /// How many maximal runs code k has, by a pass over all runs.
+    pub fn run_count(&self, k: u32) -> u32
+        requires { k ≡ self.now.rest → ⊥ }
+        ensures { result ≡ length (run_begins self.now.codes k) }
+    {
+        self.runs.count_of(k)
+    }
+
+    /// Run n of code k, both from 0, by a pass over all runs.
+    pub fn run(&self, k: u32, n: u32) -> Run
+        requires listed { k ≡ self.now.rest → ⊥ }
+        requires run { n < length (run_begins self.now.codes k) }
+        ensures { IsRun self.now.codes k n result.gap result.length }
+    {
+        let number = self.runs.number_of(k, n);
+        let begin = self.runs.begin(number);
+        Run {
+            gap: begin - self.runs.previous_end(k, n),
+            length: self.runs.end_before(number + 1) - begin,
+        }
+    }
+}
