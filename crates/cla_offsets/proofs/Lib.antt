@@ -1,7 +1,7 @@
-pub mod Searches
-pub mod Listing
-pub mod Kept
-pub mod Given
-pub mod Made
-pub mod Smalls
-pub mod Walked
+pub mod Chains
+pub mod ListedRows
+pub mod SegmentRows
+pub mod ListPlaces
+pub mod ToldCodes
+pub mod JoinedRows
+pub mod RestKept

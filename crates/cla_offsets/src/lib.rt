@@ -1,14 +1,12 @@
-//! Groups of columns with a list of rows for each tuple.
+//! Groups of columns with a list of rows for each tuple and segment.
 #![tactic(auto)]
 
+mod group;
 mod lists;
 mod offsets;
 mod owned;
-mod search;
-mod segments;
-#[cfg(test)]
-mod tests;
+mod rows;
 mod walks;
 
+pub use lists::SEGMENT_ROWS;
 pub use offsets::Offsets;
-pub use segments::SEGMENT_ROWS;

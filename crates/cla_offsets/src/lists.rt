@@ -1,69 +1,118 @@
-//! Lists of rows, one for each tuple.
+//! Lists of offsets, segment by segment and code by code.
 
-ghost use Rattle.std.specs.Prelude.{◌≡◌, ◌≤◌, ◌<◌, ◌+◌, ◌==◌, ℕ, [], length, map, if◌then◌else◌, IfOk};
-ghost use Rattle.std.specs.List.{list_any};
+ghost use Rattle.std.specs.Prelude.{◌≡◌, ◌≤◌, ◌<◌, ◌+◌, ◌*◌, ◌==◌, ◌++◌, ◌∷◌, ℕ, List, [], length, if◌then◌else◌, IfOk};
 ghost use Rattle.cla_spec.specs.Matrix.{most_cells};
 ghost use Rattle.cla_group.specs.Groups.{code_of};
-ghost use Rattle.cla_offsets.specs.Lists.{AreLists, list_of};
+ghost use Rattle.cla_group.specs.Grouped.{AreGrouped};
+ghost use Rattle.cla_offsets.specs.Segments.{segment_rows, segments_of, segment_of, listed, lists_to, begins_to};
 
+use cla_group::{Grouped, group_places};
 use cla_num::Memory;
 use std::alloc::Global;
 
-// The rows of each code but the rest, in one pass over the rows. `counts` says how many rows each
-// code has.
-pub(crate) fn lists_of(
-    alloc: Global,
-    rest: Option<u32>,
-    codes: &[u32],
-    counts: &[u32],
-) -> Result<Vec<Vec<u32>>, Memory>
-    requires below { (i : ℕ) → i < length codes.now → code_of codes.now i < length counts.now }
-    requires few { length codes.now ≤ most_cells }
-    ensures { IfOk result (λ lists. AreLists (length counts.now) rest codes.now lists.items) }
-{
-    let mut lists = empty_lists(alloc, rest, counts)?;
-    for i in 0..codes.len() {
-        let k = codes[i];
-        if rest != Some(k) {
-            lists[k as usize].push(i as u32)?;
+/// How many rows a segment has. The last one may have fewer.
+pub const SEGMENT_ROWS: u32 = 32_768;
+
+// Lists of offsets: those of the first segment code by code, then those of the next.
+#[derive(Drop)]
+pub(crate) struct Lists {
+    // Where the lists of each segment begin.
+    pub(crate) bases: Vec<u32>,
+
+    // For each segment where the list of each code begins and the last one ends, counted from the
+    // segment's base.
+    pub(crate) starts: Vec<u16>,
+
+    pub(crate) offsets: Vec<u16>,
+}
+
+impl Lists {
+    // No lists, with room for so many segments, starts in all and offsets in all.
+    pub(crate) fn with_room(
+        alloc: Global,
+        segments: usize,
+        starts: usize,
+        offsets: usize,
+    ) -> Result<Lists, Memory>
+        ensures { IfOk result (λ lists. (lists.bases.items ≡ []) × (lists.starts.items ≡ []) × (lists.offsets.items ≡ [])) }
+    {
+        Ok(Lists {
+            bases: Vec::with_capacity(alloc, segments)?,
+            starts: Vec::with_capacity(alloc, starts)?,
+            offsets: Vec::with_capacity(alloc, offsets)?,
+        })
+    }
+
+    // One more segment, whose rows have these codes.
+    pub(crate) fn add_segment(
+        &mut self,
+        alloc: Global,
+        codes: &[u32],
+        tuples: u32,
+        rest: u32,
+    ) -> Result<(), Memory>
+        requires below { (i : ℕ) → i < length codes.now → code_of codes.now i < tuples }
+        requires rows { length codes.now ≤ segment_rows }
+        requires few { length self.old.offsets.items ≤ most_cells }
+        ensures bases { IfOk result (λ _. self.new.bases.items ≡ self.old.bases.items ++ length self.old.offsets.items ∷ []) }
+        ensures starts { IfOk result (λ _. self.new.starts.items ≡ self.old.starts.items ++ begins_to (listed codes.now rest) (tuples + 1)) }
+        ensures offsets { IfOk result (λ _. self.new.offsets.items ≡ self.old.offsets.items ++ lists_to (listed codes.now rest) tuples) }
+    {
+        let grouped = group_places(alloc, codes, tuples)?;
+        let base = self.offsets.len();
+        self.bases.push(base as u32)?;
+        for k in 0..tuples {
+            let start = self.next_start(base);
+            self.starts.push(start)?;
+            push_offsets(rows_listed(&grouped, k, rest), &mut self.offsets)?;
         }
+        let end = self.next_start(base);
+        self.starts.push(end)?;
+        Ok(())
     }
-    Ok(lists)
+
+    // Where the next list begins, counted from its segment's base.
+    fn next_start(&self, base: usize) -> u16
+        requires past { base ≤ length self.now.offsets.items }
+        requires few { length self.now.offsets.items ≤ base + segment_rows }
+        ensures { base + result ≡ length self.now.offsets.items }
+    {
+        (self.offsets.len() - base) as u16
+    }
 }
 
-// Empty lists, with room for so many rows each. The rest needs none.
-fn empty_lists(alloc: Global, rest: Option<u32>, counts: &[u32]) -> Result<Vec<Vec<u32>>, Memory>
-    ensures count { IfOk result (λ lists. length lists.items ≡ length counts.now) }
-    ensures empty { IfOk result (λ lists. (k : ℕ) → list_of lists.items k ≡ []) }
+// The rows of a code, or none where it is the rest.
+fn rows_listed(grouped: &Grouped, k: u32, rest: u32) -> &[u32]
+    requires { (count : ℕ) × (codes : List ℕ) × AreGrouped count codes grouped.now.starts.items grouped.now.places.items × (k < count) }
+    ensures { (count : ℕ) (codes : List ℕ) → AreGrouped count codes grouped.now.starts.items grouped.now.places.items → k < count → result.now ≡ listed codes rest k }
 {
-    let mut lists = Vec::with_capacity(alloc, counts.len())?;
-    for k in 0..counts.len() {
-        let room = match rest {
-            Some(rest) if rest as usize == k => 0,
-            _ => counts[k] as usize,
-        };
-        lists.push(Vec::with_capacity(alloc, room)?)?;
-    }
-    Ok(lists)
+    if k == rest { &[] } else { grouped.places_of(k) }
 }
 
-// The same lists, in memory of their own.
-pub(crate) fn copied(alloc: Global, lists: &[Vec<u32>]) -> Result<Vec<Vec<u32>>, Memory>
-    ensures { IfOk result (λ made. map (λ list. list.items) made.items ≡ map (λ list. list.items) lists.now) }
-{
-    let mut made = Vec::with_capacity(alloc, lists.len())?;
-    for list in lists {
-        made.push(list.to_vec(alloc)?)?;
-    }
-    Ok(made)
-}
-
-// Gives these rows a code. `codes` has a place for each row from row `first` on.
-pub(crate) fn give_code(code: u32, first: u32, rows: &[u32], codes: &mut [u32])
-    requires within { (n : ℕ) → n < length rows.now → (first ≤ code_of rows.now n) × (code_of rows.now n < first + length codes.old) }
-    ensures { (j : ℕ) → j < length codes.old → code_of codes.new j ≡ (if list_any (λ row. row == first + j) rows.now then code else code_of codes.old j) }
+// Appends rows of a segment, counted from its first row.
+fn push_offsets(rows: &[u32], offsets: &mut Vec<u16>) -> Result<(), Memory>
+    requires within { (n : ℕ) → n < length rows.now → code_of rows.now n < segment_rows }
+    ensures { IfOk result (λ _. offsets.new.items ≡ offsets.old.items ++ rows.now) }
 {
     for row in rows {
-        codes[(*row - first) as usize] = code;
+        offsets.push(*row as u16)?;
     }
+    Ok(())
+}
+
+// How many segments so many rows have.
+pub(crate) fn segment_count(rows: u32) -> u32
+    ensures { result ≡ segments_of rows }
+{
+    rows.div_ceil(SEGMENT_ROWS)
+}
+
+// The codes of segment s.
+pub(crate) fn segment_in(codes: &[u32], s: u32) -> &[u32]
+    requires few { length codes.now ≤ most_cells }
+    requires segment { s * segment_rows < length codes.now }
+    ensures { result.now ≡ segment_of codes.now s }
+{
+    let first = s as usize * SEGMENT_ROWS as usize;
+    &codes[first..codes.len().min(first + SEGMENT_ROWS as usize)]
 }

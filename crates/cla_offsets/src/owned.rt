@@ -1,34 +1,54 @@
-//! Groups of lists for some of the rows, for some of the columns, and with other values.
+//! Groups of offset lists for some of the rows, for some of the columns, and with other values.
 
-ghost use Rattle.std.specs.Prelude.{◌≡◌, ◌*◌, length, map, IfOk};
+ghost use Rattle.std.specs.Prelude.{◌≡◌, ◌<◌, ◌≤◌, ◌*◌, ◌-◌, length, map, IfOk};
 ghost use Rattle.cla_group.specs.Tuples.{tuples_of};
-ghost use Rattle.cla_offsets.specs.Lists.{codes_of_lists};
+ghost use Rattle.cla_group.specs.Rows.{AreRowsFrom, ArePlaces, projected};
+ghost use Rattle.cla_group.specs.Renaming.{AreNumbered};
+ghost use Rattle.cla_group.specs.Listed.{rest_of};
+ghost use Rattle.cla_offsets.specs.Rows.{rest_in};
 
 use crate::offsets::Offsets;
-use cla_group::{Owned, Renaming, projected_values, renamed, values_in_order};
+use cla_group::{KeptRows, Owned, keep_rows};
 use cla_num::{Memory, Number};
 use std::alloc::Global;
 
-#[tactic(auto, using(cla_group::proofs::Tuples::tuples_count))]
 impl<N: Number> Owned<N> for Offsets<N> {
-    fn slice_rows(&self, alloc: Global, a: u32, b: u32) -> Result<Self, Memory> {
-        let old = self.codes_between(alloc, a, b)?;
-        let Renaming { codes, order } = renamed(alloc, &old, self.tuples)?;
-        let values = values_in_order(alloc, self.width, &order, &self.values)?;
-        Offsets::from_codes(alloc, self.width, &codes, values)
-    }
-
-    fn project(&self, alloc: Global, places: &[u32]) -> Result<Self, Memory> {
-        let values = projected_values(alloc, self.width, places, &self.values)?;
-        self.of_values(alloc, places.len() as u32, values)
-    }
-
-    fn with_values(&self, alloc: Global, values: Vec<N>) -> Result<Self, Memory>
-        requires whole { length values.items ≡ length (tuples_of self.now.width self.now.tuples (map N.value self.now.values.items)) * self.now.width }
-        ensures columns { IfOk result (λ g. g.width ≡ self.now.width) }
-        ensures codes { IfOk result (λ g. codes_of_lists g.lists.items g.rows g.tuples g.rest ≡ codes_of_lists self.now.lists.items self.now.rows self.now.tuples self.now.rest) }
-        ensures dictionary { IfOk result (λ g. tuples_of g.width g.tuples (map N.value g.values.items) ≡ tuples_of self.now.width (length (tuples_of self.now.width self.now.tuples (map N.value self.now.values.items))) (map N.value values.items)) }
+    fn slice_rows(&self, alloc: Global, a: u32, b: u32) -> Result<Self, Memory>
+        requires some { a < b }
+        requires within { b ≤ length self.now.rows.value.codes }
+        ensures columns { IfOk result (λ g. g.dictionary.width ≡ self.now.dictionary.width) }
+        ensures rows { IfOk result (λ g. AreRowsFrom a (b - a) self.now.dictionary.width self.now.rows.value.codes self.now.dictionary.tuples g.rows.value.codes g.dictionary.tuples) }
+        ensures numbered { IfOk result (λ g. AreNumbered g.rows.value.codes (length g.dictionary.tuples)) }
+        ensures rest { IfOk result (λ g. rest_in g.rows.value ≡ rest_of g.rows.value.codes g.dictionary.tuples) }
     {
-        self.of_values(alloc, self.width, values)
+        let old = self.rows.codes_between(alloc, a, b)?;
+        let KeptRows { codes, dictionary } = keep_rows(alloc, &old, &self.dictionary)?;
+        Ok(Offsets::of_codes(alloc, dictionary, &codes)?)
+    }
+
+    fn project(&self, alloc: Global, places: &[u32]) -> Result<Self, Memory>
+        requires places { ArePlaces self.now.dictionary.width places.now }
+        ensures columns { IfOk result (λ g. g.dictionary.width ≡ length places.now) }
+        ensures codes { IfOk result (λ g. g.rows.value.codes ≡ self.now.rows.value.codes) }
+        ensures dictionary { IfOk result (λ g. g.dictionary.tuples ≡ map (projected places.now) self.now.dictionary.tuples) }
+        ensures rest { IfOk result (λ g. rest_in g.rows.value ≡ rest_in self.now.rows.value) }
+    {
+        Ok(Offsets {
+            dictionary: self.dictionary.project(alloc, places)?,
+            rows: self.rows.clone()?,
+        })
+    }
+
+    fn with_values(&self, _alloc: Global, values: Vec<N>) -> Result<Self, Memory>
+        requires whole { length values.items ≡ length self.now.dictionary.tuples * self.now.dictionary.width }
+        ensures columns { IfOk result (λ g. g.dictionary.width ≡ self.now.dictionary.width) }
+        ensures codes { IfOk result (λ g. g.rows.value.codes ≡ self.now.rows.value.codes) }
+        ensures dictionary { IfOk result (λ g. g.dictionary.tuples ≡ tuples_of self.now.dictionary.width (length self.now.dictionary.tuples) (map N.value values.items)) }
+        ensures rest { IfOk result (λ g. rest_in g.rows.value ≡ rest_in self.now.rows.value) }
+    {
+        Ok(Offsets {
+            dictionary: self.dictionary.with_values(values),
+            rows: self.rows.clone()?,
+        })
     }
 }

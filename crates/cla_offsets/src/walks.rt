@@ -1,38 +1,100 @@
-//! Walks over a list of rows.
+//! Walks over the rows of one segment.
 
-ghost use Rattle.std.specs.Prelude.{◌≡◌, ◌<◌, ◌≤◌, ◌==◌, ℕ, length, map, if◌then◌else◌};
+ghost use Rattle.std.specs.Prelude.{◌≡◌, ◌≤◌, ◌<◌, ◌+◌, ◌-◌, ◌*◌, ◌==◌, ◌++◌, ℕ, List, length, map, take, drop, IfOk, if◌then◌else◌};
 ghost use Rattle.std.specs.List.{list_any};
-ghost use Rattle.cla_spec.specs.Numbers.{sum_to};
+ghost use Rattle.std.specs.Int.RustNames.{unsigned_abs};
 ghost use Rattle.cla_spec.specs.Matrix.{most_cells};
-ghost use Rattle.cla_num.specs.Bits.{IsSupported};
-ghost use Rattle.cla_group.specs.Groups.{at, code_of};
+ghost use Rattle.cla_num.specs.Bits.{IsSupported, value_bound};
+ghost use Rattle.cla_group.specs.Groups.{at, code_of, gathered_to};
 
 use cla_group::Join;
-use cla_num::{Number, Wide};
+use cla_num::{Memory, Number, Wide};
 
-// Joins a part with the places of these rows, which rise.
-pub(crate) fn join_rows<J: Join>(part: Wide, rows: &[u32], into: &mut [Wide])
-    requires rising { (m n : ℕ) → m < n → n < length rows.now → code_of rows.now m < code_of rows.now n }
-    requires within { (n : ℕ) → n < length rows.now → code_of rows.now n < length into.old }
-    requires fits { (n : ℕ) → n < length rows.now → J.can_join (at into.old (code_of rows.now n)) part }
-    ensures { (i : ℕ) → i < length into.old → at into.new i ≡ (if list_any (λ row. row == i) rows.now then J.join (at into.old i) part else at into.old i) }
+// Gives each place a code.
+pub(crate) fn fill_codes(code: u32, codes: &mut [u32])
+    ensures { (j : ℕ) → j < length codes.old → code_of codes.new j ≡ code }
 {
-    for row in rows {
-        let place = *row as usize;
+    for place in codes.iter_mut() {
+        *place = code;
+    }
+}
+
+// Gives these places a code.
+pub(crate) fn give_code(code: u32, places: &[u16], codes: &mut [u32])
+    requires within { (n : ℕ) → n < length places.now → code_of places.now n < length codes.old }
+    ensures { (j : ℕ) → j < length codes.old → code_of codes.new j ≡ (if list_any (λ place. place == j) places.now then code else code_of codes.old j) }
+{
+    for place in places {
+        codes[*place as usize] = code;
+    }
+}
+
+// Appends the codes from place a to before place b.
+pub(crate) fn push_part(
+    segment: &[u32],
+    a: usize,
+    b: usize,
+    codes: &mut Vec<u32>,
+) -> Result<(), Memory>
+    requires order { a ≤ b }
+    requires within { b ≤ length segment.now }
+    ensures { IfOk result (λ _. codes.new.items ≡ codes.old.items ++ take (b - a) (drop a segment.now)) }
+{
+    codes.extend_from_slice(&segment[a..b])?;
+    Ok(())
+}
+
+// Whether this offset is listed.
+pub(crate) fn has_offset(list: &[u16], offset: u16) -> bool
+    requires rising { (m n : ℕ) → m < n → n < length list.now → code_of list.now m < code_of list.now n }
+    ensures { result ≡ list_any (λ o. o == offset) list.now }
+{
+    list.binary_search(&offset).is_ok()
+}
+
+// Joins the places from place `first` on with the parts of these codes.
+pub(crate) fn join_codes<J: Join>(codes: &[u32], first: usize, parts: &[Wide], into: &mut [Wide])
+    requires within { first + length codes.now ≤ length into.old }
+    requires tuples { (j : ℕ) → j < length codes.now → code_of codes.now j < length parts.now }
+    requires fits { (j : ℕ) → j < length codes.now → J.can_join (at into.old (first + j)) (at parts.now (code_of codes.now j)) }
+    ensures before { (i : ℕ) → i < first → at into.new i ≡ at into.old i }
+    ensures joined { (j : ℕ) → j < length codes.now → at into.new (first + j) ≡ J.join (at into.old (first + j)) (at parts.now (code_of codes.now j)) }
+    ensures past { (i : ℕ) → first + length codes.now ≤ i → at into.new i ≡ at into.old i }
+{
+    for j in 0..codes.len() {
+        into[first + j] = J::joined(into[first + j], parts[codes[j] as usize]);
+    }
+}
+
+// Joins a part with the places that these offsets name, counted from place `first`. A part that leaves
+// all as it is is passed over.
+pub(crate) fn join_list<J: Join>(part: Wide, offsets: &[u16], first: usize, into: &mut [Wide])
+    requires within { (n : ℕ) → n < length offsets.now → first + code_of offsets.now n < length into.old }
+    requires rising { (m n : ℕ) → m < n → n < length offsets.now → code_of offsets.now m < code_of offsets.now n }
+    requires fits { (n : ℕ) → n < length offsets.now → J.can_join (at into.old (first + code_of offsets.now n)) part }
+    ensures joined { (n : ℕ) → n < length offsets.now → at into.new (first + code_of offsets.now n) ≡ J.join (at into.old (first + code_of offsets.now n)) part }
+    ensures others { (i : ℕ) → ((n : ℕ) → n < length offsets.now → first + code_of offsets.now n ≡ i → ⊥) → at into.new i ≡ at into.old i }
+{
+    if J::leaves_all(part) {
+        return;
+    }
+    for offset in offsets {
+        let place = first + *offset as usize;
         into[place] = J::joined(into[place], part);
     }
 }
 
-// The sum of the items of these rows.
-pub(crate) fn sum_at<N: Number>(items: &[N], rows: &[u32]) -> Wide
+// Adds the items from row `first` on to the places of these codes.
+pub(crate) fn gather_codes<N: Number>(codes: &[u32], first: usize, rows: &[N], into: &mut [Wide])
     requires bits { IsSupported N.BITS }
     requires few { length rows.now ≤ most_cells }
-    requires within { (n : ℕ) → n < length rows.now → code_of rows.now n < length items.now }
-    ensures { result ≡ sum_to (λ n. at (map N.value items.now) (code_of rows.now n)) (length rows.now) }
+    requires within { first + length codes.now ≤ length rows.now }
+    requires tuples { (j : ℕ) → j < length codes.now → code_of codes.now j < length into.old }
+    requires so_far { (all : List ℕ) × ((j : ℕ) → j < length codes.now → code_of all (first + j) ≡ code_of codes.now j) × ((k : ℕ) → k < length into.old → at into.old k ≡ gathered_to all (map N.value rows.now) k first) }
+    ensures { (all : List ℕ) → ((j : ℕ) → j < length codes.now → code_of all (first + j) ≡ code_of codes.now j) → ((k : ℕ) → k < length into.old → at into.old k ≡ gathered_to all (map N.value rows.now) k first) → (k : ℕ) → k < length into.new → at into.new k ≡ gathered_to all (map N.value rows.now) k (first + length codes.now) }
 {
-    let mut sum = Wide::zero();
-    for row in rows {
-        sum = sum.plus(items[*row as usize].wide());
+    for j in 0..codes.len() {
+        let k = codes[j] as usize;
+        into[k] = into[k].plus(rows[first + j].wide());
     }
-    sum
 }

@@ -1,0 +1,7 @@
+use Rattle.std.proofs.Common.{◌-◌, ◌*◌, arith}
+use Rattle.cla_offsets.specs.Segments.{segment_rows}
+use Rattle.cla_offsets.proofs.SegmentRows.{segment_cut}
+use Rattle.cla_offsets.proofs.lists.segment_in.Goals as goal
+
+pub returns : goal.returns
+returns c = segment_cut c.args.codes.now c.args.s (c.min.result - c.args.s * segment_rows) (omega (arith, c.min.ensures, c.requires.segment))

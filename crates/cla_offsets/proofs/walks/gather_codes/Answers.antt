@@ -1,0 +1,45 @@
+use Rattle.std.proofs.Common.{◌≡◌, ◌<◌, ◌≤◌, ◌+◌, ◌*◌, ◌+ℤ◌, ℕ, ℤ, pos, length, map, ap, sym, ◌∙◌, arith}
+use Rattle.std.proofs.lemmas.List.{get_or-map, get_or_default}
+use Rattle.std.specs.Int.RustNames.{unsigned_abs}
+use Rattle.cla_num.specs.Bits.{value_bound}
+use Rattle.cla_num.proofs.Sizes.{value_size, plus_size, fits_by_size}
+use Rattle.cla_group.specs.Groups.{at, code_of, gathered_to}
+use Rattle.cla_group.proofs.Gathered.{gathered_size, gathered_step}
+use Rattle.cla_offsets.proofs.walks.gather_codes.Goals as goal
+
+pub plus-requires : goal.plus-requires
+plus-requires g c =
+    let value = g.N.Number.value in
+    let so_far = c.requires.so_far in
+    let k = code_of c.args.codes.now c.loop-j.j in
+    let i = c.args.first + c.loop-j.j in
+    let row : i < length c.args.rows.now = omega (arith, c.loop-j-test.true, c.requires.within) in
+    let there : k < length c.loop-j.into = omega (arith, c.requires.tuples c.loop-j.j c.loop-j-test.true, c.loop-j.auto.into) in
+    let before : unsigned_abs (at c.loop-j.into k) ≤ i * value_bound =
+    rw (c.loop-j.invariant.so_far so_far.0 so_far.1 so_far.2 k there) (gathered_size _ value g.met.N.Number.in_range c.requires.bits so_far.0 c.args.rows.now k i (omega (arith, row))) in
+    let item : unsigned_abs c.wide.result ≤ value_bound = rw c.wide.ensures (value_size _ (value c.index-rows-first.result) c.requires.bits (g.met.N.Number.in_range c.index-rows-first.result)) in
+    let here : c.index-into-k.result ≡ at c.loop-j.into k = c.index-into-k.is ∙ get_or_default c.loop-j.into k c.index-into-k.result (pos 0) there in
+    fits_by_size _ (omega (arith, plus_size c.index-into-k.result c.wide.result, ap unsigned_abs here, before, item, row, c.requires.few))
+
+pub loop-j-preserved : goal.loop-j-preserved
+loop-j-preserved g c =
+    let value = g.N.Number.value in
+    let rows = c.args.rows.now in
+    let k = code_of c.args.codes.now c.loop-j.j in
+    let i = c.args.first + c.loop-j.j in
+    let row : i < length rows = omega (arith, c.loop-j-test.true, c.requires.within) in
+    let there : k < length c.loop-j.into = omega (arith, c.requires.tuples c.loop-j.j c.loop-j-test.true, c.loop-j.auto.into) in
+    let here : c.index-into-k.result ≡ at c.loop-j.into k = c.index-into-k.is ∙ get_or_default c.loop-j.into k c.index-into-k.result (pos 0) there in
+    let item : c.wide.result ≡ at (map value rows) i = c.wide.ensures ∙ ap value c.index-rows-first.is ∙ sym (get_or-map value rows i c.index-rows-first.result (pos 0) row) in
+    let next : i + 1 ≡ c.args.first + (c.loop-j.j + 1) = omega arith in
+    record {
+      so_far = λ all same is m m_there.
+          gathered_step all (map value rows) c.loop-j.into i k c.plus.result (sym (same c.loop-j.j c.loop-j-test.true)) there
+          (c.plus.ensures ∙ ap (λ (z : ℤ). z +ℤ c.wide.result) here ∙ ap (λ (z : ℤ). at c.loop-j.into k +ℤ z) item) (c.loop-j.invariant.so_far all same is) m m_there
+          ∙ ap (gathered_to all (map value rows) m) next;
+    }
+
+pub returns : goal.returns
+returns g c = λ all same is k there.
+    (let end : c.loop-j.j ≡ length c.args.codes.now = omega (arith, c.loop-j-test.false, c.loop-j.auto.j-end) in
+    c.loop-j.invariant.so_far all same is k there ∙ ap (λ (n : ℕ). gathered_to all (map g.N.Number.value c.args.rows.now) k (c.args.first + n)) end)

@@ -1,0 +1,155 @@
+//! The calls of a group of offset lists.
+
+ghost use Rattle.std.specs.Prelude.{◌≡◌, ◌<◌, ◌*◌, ◌/◌, false, length, map, IfOk};
+ghost use Rattle.cla_group.specs.Groups.{code_of, IsGroup};
+ghost use Rattle.cla_group.specs.Tuples.{AreCodes, tuples_of};
+ghost use Rattle.cla_group.specs.Listed.{is_rest, rest_of};
+ghost use Rattle.cla_offsets.specs.Segments.{segment_rows, segment_offsets};
+ghost use Rattle.cla_offsets.specs.Rows.{rest_in};
+
+use crate::offsets::Offsets;
+use crate::rows::OffsetRows;
+use cla_group::{Dictionary, Greatest, Group, Least, Plus};
+use cla_num::{Memory, Number, Wide};
+use std::alloc::Global;
+use std::rc::Rc;
+
+impl<N: Number> Offsets<N> {
+    /// The group of rows with these codes. Its tuples stand one after the other, with `width` values
+    /// each; each of them is the code of some row. The rest is the first tuple of zeros, if there is
+    /// one.
+    pub fn from_codes(
+        alloc: Global,
+        width: u32,
+        codes: &[u32],
+        values: Vec<N>,
+    ) -> Result<Offsets<N>, Memory>
+        requires codes { AreCodes width (length values.items / width) codes.now (length values.items) }
+        ensures columns { IfOk result (λ g. ⟦<Offsets<N> as Group<N>>⟧.columns g ≡ width) }
+        ensures codes { IfOk result (λ g. ⟦<Offsets<N> as Group<N>>⟧.codes g ≡ codes.now) }
+        ensures dictionary { IfOk result (λ g. ⟦<Offsets<N> as Group<N>>⟧.dictionary g ≡ tuples_of width (length values.items / width) (map N.value values.items)) }
+        ensures rest { IfOk result (λ g. rest_in g.rows.value ≡ rest_of codes.now (tuples_of width (length values.items / width) (map N.value values.items))) }
+    {
+        let tuples = (values.len() / width as usize) as u32;
+        let dictionary = Dictionary::new(width, tuples, values);
+        Ok(Offsets::of_codes(alloc, dictionary, codes)?)
+    }
+
+    // The group of these codes and tuples.
+    pub(crate) fn of_codes(
+        alloc: Global,
+        dictionary: Dictionary<N>,
+        codes: &[u32],
+    ) -> Result<Offsets<N>, Memory>
+        requires { IsGroup N.BITS dictionary.width codes.now dictionary.tuples }
+        ensures dictionary { IfOk result (λ g. g.dictionary ≡ dictionary) }
+        ensures codes { IfOk result (λ g. g.rows.value.codes ≡ codes.now) }
+        ensures rest { IfOk result (λ g. rest_in g.rows.value ≡ rest_of codes.now dictionary.tuples) }
+    {
+        let tuples = dictionary.len();
+        let rest = dictionary.rest().unwrap_or(tuples);
+        let rows = OffsetRows::from_codes(alloc, codes, tuples, rest)?;
+        Ok(Offsets {
+            dictionary,
+            rows: Rc::new(alloc, rows)?,
+        })
+    }
+
+    /// The tuple that no list names, if there is one.
+    pub fn rest(&self) -> Option<u32>
+        ensures value { result ≡ rest_in self.now.rows.value }
+    {
+        let rest = self.rows.rest();
+        if rest < self.dictionary.len() {
+            Some(rest)
+        } else {
+            None
+        }
+    }
+
+    /// How many rows of segment s have code k. Segment s begins with row `SEGMENT_ROWS` times s.
+    pub fn count(&self, k: u32, s: u32) -> u32
+        requires tuple { k < length (⟦<Offsets<N> as Group<N>>⟧.dictionary self.now) }
+        requires listed { is_rest (rest_in self.now.rows.value) k ≡ false }
+        requires segment { s * segment_rows < length (⟦<Offsets<N> as Group<N>>⟧.codes self.now) }
+        ensures { result ≡ length (segment_offsets (⟦<Offsets<N> as Group<N>>⟧.codes self.now) k s) }
+    {
+        self.list(k, s).len() as u32
+    }
+
+    /// The n-th row of segment s that has code k, from 0, counted from the segment's first row.
+    pub fn offset(&self, k: u32, s: u32, n: u32) -> u32
+        requires tuple { k < length (⟦<Offsets<N> as Group<N>>⟧.dictionary self.now) }
+        requires listed { is_rest (rest_in self.now.rows.value) k ≡ false }
+        requires segment { s * segment_rows < length (⟦<Offsets<N> as Group<N>>⟧.codes self.now) }
+        requires place { n < length (segment_offsets (⟦<Offsets<N> as Group<N>>⟧.codes self.now) k s) }
+        ensures { result ≡ code_of (segment_offsets (⟦<Offsets<N> as Group<N>>⟧.codes self.now) k s) n }
+    {
+        u32::from(self.list(k, s)[n as usize])
+    }
+
+    /// The rows of segment s that have code k, in rising order and counted from the segment's first row.
+    /// It takes no memory.
+    pub fn list(&self, k: u32, s: u32) -> &[u16]
+        requires tuple { k < length (⟦<Offsets<N> as Group<N>>⟧.dictionary self.now) }
+        requires listed { is_rest (rest_in self.now.rows.value) k ≡ false }
+        requires segment { s * segment_rows < length (⟦<Offsets<N> as Group<N>>⟧.codes self.now) }
+        ensures { result.now ≡ segment_offsets (⟦<Offsets<N> as Group<N>>⟧.codes self.now) k s }
+    {
+        self.rows.list(k, s)
+    }
+}
+
+impl<N: Number> Group<N> for Offsets<N> {
+    ghost columns = { λ g. g.dictionary.width };
+
+    ghost codes = { λ g. g.rows.value.codes };
+
+    ghost dictionary = { λ g. g.dictionary.tuples };
+
+    fn rows(&self) -> u32 {
+        self.rows.len()
+    }
+
+    fn width(&self) -> u32 {
+        self.dictionary.width()
+    }
+
+    fn tuples(&self) -> u32 {
+        self.dictionary.len()
+    }
+
+    fn value(&self, k: u32, c: u32) -> N {
+        self.dictionary.value(k, c)
+    }
+
+    fn occurrences(&self, k: u32) -> u32 {
+        self.rows.occurrences(k)
+    }
+
+    fn first_row(&self, k: u32) -> u32 {
+        self.rows.first_row(k)
+    }
+
+    fn code_at(&self, i: u32) -> u32 {
+        self.rows.code_at(i)
+    }
+
+    fn scatter(&self, parts: &[Wide], into: &mut [Wide]) {
+        self.rows.join_each::<Plus>(parts, into);
+    }
+
+    fn scatter_least(&self, parts: &[Wide], into: &mut [Wide]) {
+        self.rows.join_each::<Least>(parts, into);
+    }
+
+    fn scatter_greatest(&self, parts: &[Wide], into: &mut [Wide]) {
+        self.rows.join_each::<Greatest>(parts, into);
+    }
+
+    fn gather(&self, rows: &[N], into: &mut [Wide]) {
+        self.rows.gather(rows, into);
+    }
+
+    ghost laws = { λ g. g.is };
+}
