@@ -1,7 +1,7 @@
 -- Columns of parts, and the entries in them.
-use Rattle.std.proofs.Common.{◌≡◌, true, false, ℕ, ℤ, zero, suc, ◌+◌, ◌<◌, ◌≤◌, List, [], ◌∷◌, ◌++◌, length, map, take, cond, eqb, get_or, Ok, Err, refl, ap, sym, ◌∙◌, arith, inl, inr}
+use Rattle.std.proofs.Common.{◌≡◌, true, false, ℕ, ℤ, zero, suc, ◌<◌, ◌≤◌, List, [], ◌∷◌, length, cond, eqb, get_or, Ok, Err, refl, ap, sym, ◌∙◌, arith, inl, inr}
 use Rattle.std.proofs.lemmas.Bool.{cases_eq, cases_lt, eq-eqb, ne_eqb, ltb-false}
-use Rattle.std.proofs.lemmas.List.{get_or-map, length-map, map-append, take_more}
+use Rattle.std.proofs.lemmas.List.{get_or-map, length-map}
 use Rattle.std.proofs.lemmas.List.Sums.{position_or_len_is, sum_by-append}
 use Rattle.std.specs.Ordering.{nat_cmp}
 use Rattle.std.specs.List.Sorted.{IsBinarySearchResult}
@@ -10,8 +10,6 @@ use Rattle.cla_group.specs.Groups.{code_of, cell_of, first_row_of, occurrences_o
 use Rattle.cla_group.proofs.Regroup.{first_row_there}
 use Rattle.cla_coded.specs.declared.part.Part.{Part}
 use Rattle.cla_coded.specs.Parts.{part_of, parts_of}
-use Rattle.cla_coded.specs.declared.skeleton.SkeletonPart.{SkeletonPart}
-use Rattle.cla_coded.specs.Skeletons.{PartSkeletonOf, view_of_part, skeleton_of_part}
 use Rattle.cla_coded.specs.Layouts.{LayoutPart, no_part, part_at, all_columns, has_column, entry_in}
 
 -- columns that rise
@@ -83,16 +81,3 @@ part_of_item codes_of dictionary_of parts q item there is =
 
 pub parts_count : {G : Type 0} (codes_of : G → List ℕ) (dictionary_of : G → List (List ℤ)) (parts : List (Part G)) → length (parts_of codes_of dictionary_of parts) ≡ length parts
 parts_count codes_of dictionary_of parts = length-map parts (part_of codes_of dictionary_of)
-
--- one more skeleton
-pub skeletons_more : {G : Type 0} (codes_of : G → List ℕ) (dictionary_of : G → List (List ℤ)) (parts : List (Part G)) (q : ℕ) (item : Part G) (done : List SkeletonPart) (next : SkeletonPart)
-    → q < length parts → item ≡ get_or parts q item → map view_of_part done ≡ take q (map skeleton_of_part (parts_of codes_of dictionary_of parts)) → view_of_part next ≡ skeleton_of_part (part_of codes_of dictionary_of item)
-    → map view_of_part (done ++ next ∷ []) ≡ take (q + 1) (map skeleton_of_part (parts_of codes_of dictionary_of parts))
-skeletons_more codes_of dictionary_of parts q item done next there is so_far same =
-    let all = parts_of codes_of dictionary_of parts in
-    let count : length all ≡ length parts = parts_count codes_of dictionary_of parts in
-    let within : q < length (map skeleton_of_part all) = rw (length-map all skeleton_of_part, count) there in
-    let item_is : get_or (map skeleton_of_part all) q (skeleton_of_part no_part) ≡ view_of_part next =
-    get_or-map skeleton_of_part all q no_part (skeleton_of_part no_part) (rw count there) ∙ ap skeleton_of_part (part_of_item codes_of dictionary_of parts q item there is) ∙ sym same in
-    map-append view_of_part done (next ∷ []) ∙ ap (λ (xs : List PartSkeletonOf). xs ++ view_of_part next ∷ []) so_far
-    ∙ sym (take_more (map skeleton_of_part all) q (skeleton_of_part no_part) within ∙ ap (λ (x : PartSkeletonOf). take q (map skeleton_of_part all) ++ x ∷ []) item_is)

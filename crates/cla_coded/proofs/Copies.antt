@@ -1,8 +1,8 @@
 -- Equal parts, and a matrix as one part.
-use Rattle.std.proofs.Common.{◌≡◌, ℕ, ℤ, pos, zero, suc, ◌+◌, ◌<◌, ◌≤◌, List, [], ◌∷◌, ◌++◌, length, map, take, get_or, refl, ap, sym, ◌∙◌, arith, inl, inr}
+use Rattle.std.proofs.Common.{◌≡◌, ℕ, ℤ, pos, zero, suc, ◌+◌, ◌<◌, ◌≤◌, List, [], ◌∷◌, ◌++◌, length, map, get_or, refl, ap, sym, ◌∙◌, arith, inl, inr}
 use Rattle.std.specs.List.{range_with_len}
 use Rattle.std.proofs.lemmas.Bool.{cases_lt}
-use Rattle.std.proofs.lemmas.List.{ext_get_or, get_or-map, length-map, map-append, append-nil, get_or_append_left, get_or_push, length_push, take_more}
+use Rattle.std.proofs.lemmas.List.{ext_get_or, get_or-map, length-map, append-nil, get_or_append_left, get_or_push, length_push}
 use Rattle.std.proofs.lemmas.List.FromFn.{length-map-range_with_len, get_or-map-range_with_len}
 use Rattle.cla_spec.specs.Numbers.{InRange}
 use Rattle.cla_spec.specs.Matrix.{Matrix, IsShaped}
@@ -11,10 +11,7 @@ use Rattle.cla_group.specs.Tuples.{tuples_of}
 use Rattle.cla_group.specs.Rows.{ArePlaces, projected}
 use Rattle.cla_group.proofs.Counting.{rows_count, code_is, occurs_once, plain_group}
 use Rattle.cla_group.proofs.Regroup.{first_row_there, code_of_first_row}
-use Rattle.cla_coded.specs.declared.part.Part.{Part}
-use Rattle.cla_coded.specs.Parts.{part_of, parts_of}
-use Rattle.cla_coded.specs.Layouts.{LayoutPart, no_part, IsWhole, IsPart, part_at, loose_layout}
-use Rattle.cla_coded.proofs.Columns.{part_of_item, parts_count}
+use Rattle.cla_coded.specs.Layouts.{LayoutPart, IsWhole, IsPart, part_at, loose_layout}
 
 -- one more column
 pub columns_more : (n : ℕ) → range_with_len 0 n ++ n ∷ [] ≡ range_with_len 0 (n + 1)
@@ -46,17 +43,6 @@ all_projected width tuples full =
     ext_get_or [] (map (projected (range_with_len 0 width)) tuples) tuples (length-map tuples (projected (range_with_len 0 width)))
     (λ k lt. (let there : k < length tuples = rw (length-map tuples (projected (range_with_len 0 width))) at lt in
     get_or-map (projected (range_with_len 0 width)) tuples k [] [] there ∙ projected_all width (get_or tuples k []) (full k there)))
-
--- one more equal part
-pub parts_more : {G : Type 0} (codes_of : G → List ℕ) (dictionary_of : G → List (List ℤ)) (parts : List (Part G)) (q : ℕ) (item : Part G) (done : List (Part G)) (next : Part G)
-    → q < length parts → item ≡ get_or parts q item → parts_of codes_of dictionary_of done ≡ take q (parts_of codes_of dictionary_of parts) → part_of codes_of dictionary_of next ≡ part_of codes_of dictionary_of item
-    → parts_of codes_of dictionary_of (done ++ next ∷ []) ≡ take (q + 1) (parts_of codes_of dictionary_of parts)
-parts_more codes_of dictionary_of parts q item done next there is so_far same =
-    let all = parts_of codes_of dictionary_of parts in
-    let within : q < length all = rw (parts_count codes_of dictionary_of parts) there in
-    let item_is : get_or all q no_part ≡ part_of codes_of dictionary_of next = part_of_item codes_of dictionary_of parts q item there is ∙ sym same in
-    map-append (part_of codes_of dictionary_of) done (next ∷ []) ∙ ap (λ (xs : List LayoutPart). xs ++ part_of codes_of dictionary_of next ∷ []) so_far
-    ∙ sym (take_more all q no_part within ∙ ap (λ (x : LayoutPart). take q all ++ x ∷ []) item_is)
 
 -- a column that isn't among the first ones isn't listed
 past_columns : (n j : ℕ) → n ≤ j → occurrences_of (range_with_len 0 n) j ≡ 0

@@ -2,10 +2,11 @@ pub mod Columns
 pub mod Wholes
 pub mod PartSums
 pub mod Matrices
+pub mod OwnRows
+pub mod Outlines
 pub mod CellPlaces
 pub mod DenseLaws
 pub mod AnyRows
 pub mod Copies
 pub mod TwoParts
-pub mod OwnCodes
 pub mod Examples

@@ -1,14 +1,10 @@
 -- Layouts in the one form that packed files are to have.
-use Rattle.std.specs.Prelude.{◌≡◌, ℕ, ℤ, ◌+◌, ◌<◌, List, [], length, slice_index_or}
+use Rattle.std.specs.Prelude.{◌≡◌, ℕ, ℤ, ◌<◌, List, [], length, slice_index_or}
 use Rattle.std.specs.List.{range_with_len}
 use Rattle.cla_group.specs.declared.kind.Kind.{Kind}
 use Rattle.cla_group.specs.declared.kind.Kind.TheVariants as kind
-use Rattle.cla_group.specs.Groups.{code_of, first_row_of}
-use Rattle.cla_coded.specs.Layouts.{LayoutPart, Layout, IsWhole, part_at}
-
--- tuples are numbered by their first rows
-abbrev pub AreNumbered : List ℕ → ℕ → Type 0
-AreNumbered codes n = (k : ℕ) → k + 1 < n → first_row_of codes k < first_row_of codes (k + 1)
+use Rattle.cla_group.specs.Renaming.{AreNumbered}
+use Rattle.cla_coded.specs.Layouts.{LayoutPart, Layout, IsWhole, part_at, column_at}
 
 -- no two tuples are the same
 abbrev pub AreDistinct : List (List ℤ) → Type 0
@@ -29,6 +25,8 @@ kind_at kinds q = slice_index_or kinds q kind.Plain
 pub record IsCanonical (bits : ℕ) (layout : Layout) (kinds : List Kind) : Type 0 where
   pub whole : IsWhole bits layout
   pub a_kind_each : length kinds ≡ length layout.parts
-  pub in_order : (q r : ℕ) → q < r → r < length layout.parts → code_of (part_at layout.parts q).columns 0 < code_of (part_at layout.parts r).columns 0
-  pub numbered : (q : ℕ) → q < length layout.parts → AreNumbered (part_at layout.parts q).codes (length (part_at layout.parts q).tuples)
+  pub in_order : (q r : ℕ) → q < r → r < length layout.parts →
+      column_at (part_at layout.parts q).columns 0 < column_at (part_at layout.parts r).columns 0
+  pub numbered : (q : ℕ) → q < length layout.parts →
+      AreNumbered (part_at layout.parts q).codes (length (part_at layout.parts q).tuples)
   pub kinds_are : (q : ℕ) → q < length layout.parts → HasKind (kind_at kinds q) (part_at layout.parts q)

@@ -2,8 +2,8 @@
 use Rattle.std.specs.Prelude.{◌≡◌, ℕ, ℤ, pos, ◌+ℤ◌, List, [], ◌∷◌, length}
 use Rattle.cla_spec.specs.Numbers.{sum_to}
 use Rattle.cla_spec.specs.Matrix.{Matrix, IsShaped, IsWellMade}
-use Rattle.cla_group.specs.Groups.{code_of, cell_of}
-use Rattle.cla_coded.specs.Layouts.{LayoutPart, Layout, StandsFor, IsWhole, entry_in, matrix_in, transposed}
+use Rattle.cla_group.specs.Groups.{cell_of}
+use Rattle.cla_coded.specs.Layouts.{LayoutPart, Layout, StandsFor, IsWhole, column_at, entry_in, matrix_in, transposed}
 
 -- a value of each part, added up
 abbrev pub sum_over : (LayoutPart → ℤ) → List LayoutPart → ℤ
@@ -23,7 +23,7 @@ LayoutsStandForOne = (bits : ℕ) (layout : Layout) (m : Matrix) → IsWhole bit
 abbrev pub RowsSumByParts : Type 0
 RowsSumByParts = (bits : ℕ) (layout : Layout) (f : ℕ → ℤ → ℤ) (i : ℕ) → IsWhole bits layout →
     sum_to (λ j. f j (entry_in layout.parts i j)) layout.cols
-    ≡ sum_over (λ part. sum_to (λ c. f (code_of part.columns c) (cell_of part.codes part.tuples i c)) (length part.columns)) layout.parts
+    ≡ sum_over (λ part. sum_to (λ c. f (column_at part.columns c) (cell_of part.codes part.tuples i c)) (length part.columns)) layout.parts
 
 -- the transpose of the transpose is the matrix
 abbrev pub TransposedTwice : Type 0

@@ -1,7 +1,8 @@
 pub mod Layouts
 pub mod Parts
+pub mod Tables
 pub mod Laws
 pub mod Places
 pub mod Skeletons
-pub mod AnyGroups
+-- pub mod AnyGroups
 pub mod Canonical

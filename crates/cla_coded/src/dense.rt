@@ -1,16 +1,14 @@
-//! From tables to dense matrices: part by part, and column by column.
+//! From tables to dense matrices: part by part, and row by row.
 
-ghost use Rattle.std.specs.Prelude.{◌≡◌, ◌<◌, ◌≤◌, ◌*◌, ◌^◌, ℕ, length, map};
-ghost use Rattle.cla_spec.specs.Numbers.{InRange};
-ghost use Rattle.cla_num.specs.Bits.{IsSupported};
-ghost use Rattle.cla_group.specs.Groups.{at, code_of, cell_of, value_of};
-ghost use Rattle.cla_coded.specs.Layouts.{IsPart, IsWhole, entry_in};
+ghost use Rattle.std.specs.Prelude.{◌≡◌, ◌<◌, ◌*◌, ◌^◌, length, map, IfOk};
+ghost use Rattle.cla_coded.specs.Layouts.{IsWhole, layout_with};
 ghost use Rattle.cla_coded.specs.Parts.{part_of, parts_of};
-ghost use Rattle.cla_coded.specs.Places.{HasCells, IsColumnWritten, IsPartWritten, place_in};
+ghost use Rattle.cla_coded.specs.Places.{HasCells, IsPartOf, IsRowWritten, IsPartWritten, AreEntries, place_in};
 
 use crate::part::Part;
 use cla_group::Group;
-use cla_num::{Number, Wide};
+use cla_num::{Memory, Number};
+use std::alloc::Global;
 
 /// The rows and columns of a base, and whether the table is its transpose.
 #[derive(Clone, Copy, Debug)]
@@ -26,7 +24,8 @@ impl Shape {
         requires row { i < self.rows }
         requires col { j < self.cols }
         requires few { self.rows * self.cols < 2 ^ 31 }
-        ensures { result ≡ place_in self i j }
+        ensures place { result ≡ place_in self i j }
+        ensures within { result < self.rows * self.cols }
     {
         if self.flipped {
             j as usize * self.rows as usize + i as usize
@@ -36,87 +35,96 @@ impl Shape {
     }
 }
 
-/// Writes all parts of a whole layout into the table's cells. `values` and `column` are scratch, each
-/// with a place for each row.
-pub(crate) fn write_parts<N: Number, G: Group<N>>(
+/// The cells, row by row, of the table whose base has these parts. `first` fills them until they are
+/// written.
+pub(crate) fn cells_of<N: Number, G: Group<N>>(
+    alloc: Global,
     parts: &[Part<G>],
     shape: Shape,
-    values: &mut [Wide],
-    column: &mut [Wide],
+    first: N,
+) -> Result<Vec<N>, Memory>
+    requires { IsWhole N.BITS (layout_with shape.rows shape.cols (parts_of G.codes G.dictionary parts.now)) }
+    ensures count { IfOk result (λ cells. length cells.items ≡ shape.rows * shape.cols) }
+    ensures entries { IfOk result (λ cells. AreEntries shape (parts_of G.codes G.dictionary parts.now) (map N.value cells.items)) }
+{
+    let rows = shape.rows as usize;
+    let mut cells = Vec::from_elem(alloc, first, rows * shape.cols as usize)?;
+    let mut codes = Vec::from_elem(alloc, 0, rows)?;
+    write_parts(parts, shape, &mut codes, &mut cells);
+    Ok(cells)
+}
+
+// Writes all parts of a whole layout into the table's cells. `codes` is scratch, with a place for each
+// row.
+fn write_parts<N: Number, G: Group<N>>(
+    parts: &[Part<G>],
+    shape: Shape,
+    codes: &mut [u32],
     cells: &mut [N],
 )
-    requires bits { IsSupported N.BITS }
-    requires whole { IsWhole N.BITS (record { rows = shape.rows; cols = shape.cols; parts = parts_of G.codes G.dictionary parts.now }) }
-    requires values { length values.old ≡ shape.rows }
-    requires column { length column.old ≡ shape.rows }
+    requires whole { IsWhole N.BITS (layout_with shape.rows shape.cols (parts_of G.codes G.dictionary parts.now)) }
+    requires codes { length codes.old ≡ shape.rows }
     requires cells { length cells.old ≡ shape.rows * shape.cols }
-    ensures { (i j : ℕ) → i < shape.rows → j < shape.cols → at (map N.value cells.new) (place_in shape i j) ≡ entry_in (parts_of G.codes G.dictionary parts.now) i j }
+    ensures { AreEntries shape (parts_of G.codes G.dictionary parts.now) (map N.value cells.new) }
 {
     for part in parts {
-        write_part(part, shape, values, column, cells);
+        write_part(part, shape, codes, cells);
     }
 }
 
-// Writes the columns of a part.
+// Writes a part.
 fn write_part<N: Number, G: Group<N>>(
     part: &Part<G>,
     shape: Shape,
-    values: &mut [Wide],
-    column: &mut [Wide],
+    codes: &mut [u32],
     cells: &mut [N],
 )
-    requires bits { IsSupported N.BITS }
-    requires part { IsPart N.BITS shape.rows (part_of G.codes G.dictionary part.now) }
-    requires columns { (c : ℕ) → c < length part.now.columns.items → code_of part.now.columns.items c < shape.cols }
-    requires values { length values.old ≡ shape.rows }
-    requires column { length column.old ≡ shape.rows }
+    requires part { IsPartOf N.BITS shape (part_of G.codes G.dictionary part.now) }
+    requires codes { length codes.old ≡ shape.rows }
     requires cells { HasCells shape cells.old }
     ensures { IsPartWritten shape (part_of G.codes G.dictionary part.now) (map N.value cells.old) (map N.value cells.new) }
 {
-    for c in 0..part.group.width() {
-        read_column(&part.group, c, values, column);
-        write_column(column, shape, part.columns[c as usize], cells);
+    if part.group.tuples() == shape.rows {
+        write_tuples(part, shape, cells);
+    } else {
+        part.group.read_codes(codes);
+        write_rows(part, codes, shape, cells);
     }
 }
 
-// The values in place c of each row.
-fn read_column<N: Number, G: Group<N>>(g: &G, c: u32, values: &mut [Wide], column: &mut [Wide])
-    requires bits { IsSupported N.BITS }
-    requires place { c < G.columns g.now }
-    requires values { length values.old ≡ length (G.codes g.now) }
-    requires rows { length column.old ≡ length (G.codes g.now) }
-    ensures { (i : ℕ) → i < length (G.codes g.now) → at column.new i ≡ cell_of (G.codes g.now) (G.dictionary g.now) i c }
-{
-    let values = &mut values[..g.tuples() as usize];
-    read_values(g, c, values);
-    column.fill(Wide::zero());
-    g.scatter(values, column);
-}
-
-// The values in place c of each tuple.
-fn read_values<N: Number, G: Group<N>>(g: &G, c: u32, values: &mut [Wide])
-    requires place { c < G.columns g.now }
-    requires tuples { length values.old ≡ length (G.dictionary g.now) }
-    ensures { (k : ℕ) → k < length (G.dictionary g.now) → at values.new k ≡ value_of (G.dictionary g.now) k c }
-{
-    for k in 0..g.tuples() {
-        values[k as usize] = g.value(k, c).wide();
-    }
-}
-
-// Writes a column, from its first row down.
-fn write_column<N: Number>(column: &[Wide], shape: Shape, j: u32, cells: &mut [N])
-    requires bits { IsSupported N.BITS }
-    requires rows { length column.now ≡ shape.rows }
-    requires col { j < shape.cols }
-    requires small { (i : ℕ) → i < shape.rows → InRange N.BITS (at column.now i) }
+// Writes a part whose rows have a tuple each: every tuple into its row.
+fn write_tuples<N: Number, G: Group<N>>(part: &Part<G>, shape: Shape, cells: &mut [N])
+    requires part { IsPartOf N.BITS shape (part_of G.codes G.dictionary part.now) }
+    requires own { length (G.dictionary part.now.group) ≡ shape.rows }
     requires cells { HasCells shape cells.old }
-    ensures { IsColumnWritten shape j column.now (map N.value cells.old) (map N.value cells.new) }
+    ensures { IsPartWritten shape (part_of G.codes G.dictionary part.now) (map N.value cells.old) (map N.value cells.new) }
+{
+    for k in 0..shape.rows {
+        write_row(part, k, part.group.first_row(k), shape, cells);
+    }
+}
+
+// Writes a part whose rows have these codes.
+fn write_rows<N: Number, G: Group<N>>(part: &Part<G>, codes: &[u32], shape: Shape, cells: &mut [N])
+    requires part { IsPartOf N.BITS shape (part_of G.codes G.dictionary part.now) }
+    requires codes { codes.now ≡ G.codes part.now.group }
+    requires cells { HasCells shape cells.old }
+    ensures { IsPartWritten shape (part_of G.codes G.dictionary part.now) (map N.value cells.old) (map N.value cells.new) }
 {
     for i in 0..shape.rows {
-        let Some(value) = N::narrow(column[i as usize]) else {
-            unreachable!("a value of a group is in range")
-        };
-        cells[shape.place(i, j)] = value;
+        write_row(part, codes[i as usize], i, shape, cells);
+    }
+}
+
+// Writes tuple k into row i, in the columns of the part.
+fn write_row<N: Number, G: Group<N>>(part: &Part<G>, k: u32, i: u32, shape: Shape, cells: &mut [N])
+    requires part { IsPartOf N.BITS shape (part_of G.codes G.dictionary part.now) }
+    requires tuple { k < length (G.dictionary part.now.group) }
+    requires row { i < shape.rows }
+    requires cells { HasCells shape cells.old }
+    ensures { IsRowWritten shape (part_of G.codes G.dictionary part.now) k i (map N.value cells.old) (map N.value cells.new) }
+{
+    for c in 0..part.group.width() {
+        cells[shape.place(i, part.columns[c as usize])] = part.group.value(k, c);
     }
 }

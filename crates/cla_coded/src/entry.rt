@@ -1,8 +1,7 @@
 //! Entries of layouts.
 
 ghost use Rattle.std.specs.Prelude.{◌≡◌, ◌<◌, length, true, false, MatchOption};
-ghost use Rattle.cla_group.specs.Groups.{cell_of, first_row_of};
-ghost use Rattle.cla_coded.specs.Layouts.{HasCell, IsPart, entry_in, has_column};
+ghost use Rattle.cla_coded.specs.Layouts.{HasCell, IsPart, entry_in, has_column, value_in};
 ghost use Rattle.cla_coded.specs.Parts.{part_of, parts_of};
 
 use crate::part::Part;
@@ -26,7 +25,8 @@ pub(crate) fn entry_in<N: Number, G: Group<N>>(parts: &[Part<G>], i: u32, j: u32
 fn value_in<N: Number, G: Group<N>>(part: &Part<G>, i: u32, j: u32) -> Option<N>
     requires part { IsPart N.BITS (length (G.codes part.now.group)) (part_of G.codes G.dictionary part.now) }
     requires row { i < length (G.codes part.now.group) }
-    ensures { MatchOption result (has_column (part_of G.codes G.dictionary part.now) j ≡ false) (λ n. (has_column (part_of G.codes G.dictionary part.now) j ≡ true) × (N.value n ≡ cell_of (G.codes part.now.group) (G.dictionary part.now.group) i (first_row_of part.now.columns.items j))) }
+    ensures { let p = part_of G.codes G.dictionary part.now in
+        MatchOption result (has_column p j ≡ false) (λ n. (has_column p j ≡ true) × (N.value n ≡ value_in p i j)) }
 {
     match part.columns.binary_search(&j) {
         Ok(place) => Some(part.group.value(part.group.code_at(i), place as u32)),

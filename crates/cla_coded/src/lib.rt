@@ -1,20 +1,20 @@
 //! Tables: matrices that are kept as groups of columns of any kind, and their transposes.
 #![tactic(auto)]
 
-mod any_group;
-mod any_impls;
-mod coded;
+// mod any_group;
+// mod any_impls;
+// mod coded;
+mod codes;
 mod dense;
 mod entry;
 mod laws;
 mod part;
 mod skeleton;
 mod table;
-#[cfg(test)]
-mod tests;
 
-pub use any_group::AnyGroup;
-pub use coded::{Coded, copy, loose};
+// pub use any_group::AnyGroup;
+// pub use coded::{Coded, copy, loose};
+pub use codes::codes_of;
 pub use laws::{layouts_stand, layouts_stand_for_one, rows_sum_by_parts, transposed_twice};
 pub use part::Part;
 pub use skeleton::{Skeleton, SkeletonPart};

@@ -1,9 +1,9 @@
 //! Skeletons of tables: their groups without the values.
 
 ghost use Rattle.std.specs.Prelude.{◌≡◌, IfOk};
-ghost use Rattle.cla_coded.specs.Skeletons.{view_of_part, skeleton_of_part};
-ghost use Rattle.cla_coded.specs.Parts.{part_of};
+ghost use Rattle.cla_coded.specs.Skeletons.{view_of_part, part_skeleton_of};
 
+use crate::codes::codes_of;
 use crate::part::Part;
 use cla_group::Group;
 use cla_num::{Memory, Number};
@@ -30,20 +30,9 @@ pub(crate) fn part_skeleton<N: Number, G: Group<N>>(
     alloc: Global,
     part: &Part<G>,
 ) -> Result<SkeletonPart, Memory>
-    ensures { IfOk result (λ s. view_of_part s ≡ skeleton_of_part (part_of G.codes G.dictionary part.now)) }
+    ensures { IfOk result (λ s. view_of_part s ≡ part_skeleton_of G.codes part.now) }
 {
     let columns = Vec::from_slice(alloc, &part.columns)?;
     let codes = codes_of(alloc, &part.group)?;
     Ok(SkeletonPart { columns, codes })
-}
-
-// The code of each row.
-fn codes_of<N: Number, G: Group<N>>(alloc: Global, g: &G) -> Result<Vec<u32>, Memory>
-    ensures { IfOk result (λ codes. codes.items ≡ G.codes g.now) }
-{
-    let mut codes = Vec::with_capacity(alloc, g.rows() as usize)?;
-    for i in 0..g.rows() {
-        codes.push(g.code_at(i))?;
-    }
-    Ok(codes)
 }
