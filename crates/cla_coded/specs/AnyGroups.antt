@@ -8,12 +8,12 @@ use Rattle.std.specs.declared.hash.Hash as hash
 use Rattle.cla_num.specs.declared.number.Number as number
 use Rattle.cla_group.specs.declared.kind.Kind.{Kind}
 use Rattle.cla_group.specs.declared.kind.Kind.TheVariants as kind
-use Rattle.cla_group.specs.Groups.{cell_of}
+use Rattle.cla_group.specs.Groups.{cell_of, IsGroup}
 use Rattle.cla_group.specs.Listed.{rest_of}
-use Rattle.cla_plain.specs.Members.{plain_columns, plain_codes, plain_dictionary}
-use Rattle.cla_codes.specs.Members.{codes_columns, codes_codes, codes_dictionary}
-use Rattle.cla_offsets.specs.Members.{offsets_columns, offsets_codes, offsets_dictionary, offsets_rest}
-use Rattle.cla_runs.specs.Members.{runs_columns, runs_codes, runs_dictionary, runs_rest}
+use Rattle.cla_plain.specs.Members.{plain_columns, plain_codes, plain_dictionary, plain_law}
+use Rattle.cla_codes.specs.Members.{codes_columns, codes_codes, codes_dictionary, codes_law}
+use Rattle.cla_offsets.specs.Members.{offsets_columns, offsets_codes, offsets_dictionary, offsets_rest, offsets_law}
+use Rattle.cla_runs.specs.Members.{runs_columns, runs_codes, runs_dictionary, runs_rest, runs_law}
 use Rattle.cla_coded.specs.declared.any_group.AnyGroup.{AnyGroup}
 use Rattle.cla_coded.specs.declared.any_group.AnyGroup.TheVariants.{Plain, Codes1, Codes2, Codes4, Offsets, Runs}
 
@@ -71,6 +71,15 @@ module _ {N : Type 0} {n : number.Ghosts N} {o : ord.Ghosts N} {e : partial_eq.G
   any_form (Codes4 g) = record { kind = kind.Codes; code_bytes = 4; rest = None }
   any_form (Offsets g) = record { kind = kind.Offsets; code_bytes = 0; rest = offsets_rest g }
   any_form (Runs g) = record { kind = kind.Runs; code_bytes = 0; rest = runs_rest g }
+
+  -- the law of groups holds of each
+  pub any_law : (g : AnyGroup N n o e p h) → IsGroup n.BITS (any_columns g) (any_codes g) (any_dictionary g)
+  any_law (Plain g) = plain_law g
+  any_law (Codes1 g) = codes_law g
+  any_law (Codes2 g) = codes_law g
+  any_law (Codes4 g) = codes_law g
+  any_law (Offsets g) = offsets_law g
+  any_law (Runs g) = runs_law g
 
 -- the group that is made of these codes and tuples: in a plain one row i has code i and the tuple of its code, and in the
 -- others codes and tuples are these

@@ -4,5 +4,6 @@ pub mod Tables
 pub mod Laws
 pub mod Places
 pub mod Skeletons
--- pub mod AnyGroups
+pub mod AnyGroups
 pub mod Canonical
+pub mod Forms

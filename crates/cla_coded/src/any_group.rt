@@ -123,7 +123,7 @@ fn from_codes_of_rows<N: Number>(
 }
 
 impl<N: Number> Group<N> for AnyGroup<N> {
-    ghost use Rattle.cla_coded.specs.declared.any_group.AnyGroup.TheVariants.{Plain as of_plain, Codes1 as of_codes1, Codes2 as of_codes2, Codes4 as of_codes4, Offsets as of_offsets, Runs as of_runs};
+    ghost use Rattle.cla_coded.specs.AnyGroups.{any_law};
 
     ghost columns = { any_columns };
 
@@ -179,14 +179,7 @@ impl<N: Number> Group<N> for AnyGroup<N> {
         each_kind!(self, group => group.gather(rows, into))
     }
 
-    ghost laws = { elim [
-      | of_plain g ↦ ⟦<Plain<N> as Group<N>>⟧.laws g
-      | of_codes1 g ↦ ⟦<Codes<N, 1> as Group<N>>⟧.laws g
-      | of_codes2 g ↦ ⟦<Codes<N, 2> as Group<N>>⟧.laws g
-      | of_codes4 g ↦ ⟦<Codes<N, 4> as Group<N>>⟧.laws g
-      | of_offsets g ↦ ⟦<Offsets<N> as Group<N>>⟧.laws g
-      | of_runs g ↦ ⟦<Runs<N> as Group<N>>⟧.laws g
-    ] };
+    ghost laws = { any_law };
 }
 
 /// A group that is made of another keeps its kind and the bytes of its codes. With other values or in

@@ -1,14 +1,17 @@
 //! Tables of groups of any kind: from dense matrices, and copies.
 
-ghost use Rattle.std.specs.Prelude.{◌≡◌, length, false, IfOk};
+ghost use Rattle.std.specs.Prelude.{◌≡◌, ◌∷◌, [], None, false, length, IfOk};
 ghost use Rattle.std.specs.List.{range_with_len};
+ghost use Rattle.cla_coded.specs.AnyGroups.{any_codes, any_dictionary, any_form};
+ghost use Rattle.cla_coded.specs.Forms.{forms_of};
 ghost use Rattle.cla_coded.specs.Layouts.{loose_layout};
-ghost use Rattle.cla_coded.specs.Parts.{part_of, parts_of};
+ghost use Rattle.cla_coded.specs.Parts.{part_of};
+ghost use Rattle.cla_coded.specs.Tables.{layout_of};
 
 use crate::any_group::AnyGroup;
 use crate::part::Part;
 use crate::table::Table;
-use cla_group::{Group, Owned};
+use cla_group::{Group, Kind, Owned};
 use cla_num::{Dense, Memory, Number};
 use cla_plain::Plain;
 use std::alloc::Global;
@@ -16,9 +19,12 @@ use std::alloc::Global;
 /// A matrix that is kept as groups of any kind.
 pub type Coded<N> = Table<N, AnyGroup<N>>;
 
-/// The matrix as one plain group of all columns, not flipped. It keeps the cells as they are.
+/// The matrix as one plain group of all columns, not flipped. It keeps the cells as they are, and takes
+/// memory for the list of columns alone.
 pub fn loose<N: Number>(alloc: Global, m: Dense<N>) -> Result<Coded<N>, Memory>
-    ensures { IfOk result (λ t. t ≡ record { base = loose_layout m; flipped = false }) }
+    ensures layout { IfOk result (λ t. layout_of any_codes any_dictionary t ≡ loose_layout m) }
+    ensures flipped { IfOk result (λ t. t.flipped ≡ false) }
+    ensures forms { IfOk result (λ t. forms_of t ≡ record { kind = Kind.Plain; code_bytes = 0; rest = None } ∷ []) }
 {
     let rows = m.rows();
     let cols = m.cols();
@@ -31,20 +37,27 @@ pub fn loose<N: Number>(alloc: Global, m: Dense<N>) -> Result<Coded<N>, Memory>
     Ok(Table::new(rows, cols, false, parts))
 }
 
-/// A table of equal groups, which stands for the same matrix.
+/// A table of equal groups, each kept as it was, which stands for the same matrix. It costs a copy of the
+/// dictionaries; what belongs to the rows is shared.
 pub fn copy<N: Number>(alloc: Global, m: &Coded<N>) -> Result<Coded<N>, Memory>
-    ensures { IfOk result (λ t. t ≡ m.now) }
+    ensures layout { IfOk result (λ t. layout_of any_codes any_dictionary t ≡ layout_of any_codes any_dictionary m.now) }
+    ensures flipped { IfOk result (λ t. t.flipped ≡ m.now.flipped) }
+    ensures forms { IfOk result (λ t. forms_of t ≡ forms_of m.now) }
 {
     let mut parts = Vec::with_capacity(alloc, m.parts().len())?;
     for part in m.parts() {
-        parts.push(copied(alloc, part)?)?;
+        parts.push(copy_part(alloc, part)?)?;
     }
-    Ok(m.of_equal_parts(parts))
+    Ok(m.with_parts(parts))
 }
 
-// A part with an equal group.
-fn copied<N: Number, G: Owned<N>>(alloc: Global, part: &Part<G>) -> Result<Part<G>, Memory>
-    ensures { IfOk result (λ p. part_of G.codes G.dictionary p ≡ part_of G.codes G.dictionary part.now) }
+// A part with an equal group, kept as it was.
+fn copy_part<N: Number>(
+    alloc: Global,
+    part: &Part<AnyGroup<N>>,
+) -> Result<Part<AnyGroup<N>>, Memory>
+    ensures part { IfOk result (λ p. part_of any_codes any_dictionary p ≡ part_of any_codes any_dictionary part.now) }
+    ensures form { IfOk result (λ p. any_form p.group ≡ any_form part.now.group) }
 {
     let columns = Vec::from_slice(alloc, &part.columns)?;
     let places = first_columns(alloc, part.group.width())?;

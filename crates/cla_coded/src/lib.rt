@@ -1,9 +1,8 @@
 //! Tables: matrices that are kept as groups of columns of any kind, and their transposes.
 #![tactic(auto)]
 
-// mod any_group;
-// mod any_impls;
-// mod coded;
+mod any_group;
+mod coded;
 mod codes;
 mod dense;
 mod entry;
@@ -12,8 +11,8 @@ mod part;
 mod skeleton;
 mod table;
 
-// pub use any_group::AnyGroup;
-// pub use coded::{Coded, copy, loose};
+pub use any_group::AnyGroup;
+pub use coded::{Coded, copy, loose};
 pub use codes::codes_of;
 pub use laws::{layouts_stand, layouts_stand_for_one, rows_sum_by_parts, transposed_twice};
 pub use part::Part;

@@ -133,6 +133,20 @@ impl<N: Number, G: Group<N>> Table<N, G> {
         })
     }
 
+    // The table of other parts with the same columns, codes and tuples.
+    pub(crate) fn with_parts(&self, parts: Vec<Part<G>>) -> Table<N, G>
+        requires { parts_of G.codes G.dictionary parts.items ≡ parts_of G.codes G.dictionary self.now.parts }
+        ensures { result ≡ record self.now { parts = parts.items } }
+    {
+        Table {
+            rows: self.rows,
+            cols: self.cols,
+            flipped: self.flipped,
+            parts,
+            numbers: PhantomData,
+        }
+    }
+
     /// The transpose. It takes no memory.
     pub fn flip(self) -> Table<N, G>
         ensures { result ≡ record self { flipped = not self.flipped } }

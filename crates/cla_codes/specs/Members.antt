@@ -5,6 +5,7 @@ use Rattle.std.specs.declared.cmp.PartialEq as partial_eq
 use Rattle.std.specs.declared.cmp.PartialOrd as partial_ord
 use Rattle.std.specs.declared.hash.Hash as hash
 use Rattle.cla_num.specs.declared.number.Number as number
+use Rattle.cla_group.specs.Groups.{IsGroup}
 use Rattle.cla_codes.specs.declared.codes.Codes.{Codes}
 
 module _ {N : Type 0} {w : ℕ} {n : number.Ghosts N} {o : ord.Ghosts N} {e : partial_eq.Ghosts N} {p : partial_ord.Ghosts N} {h : hash.Ghosts N} where
@@ -16,3 +17,7 @@ module _ {N : Type 0} {w : ℕ} {n : number.Ghosts N} {o : ord.Ghosts N} {e : pa
 
   abbrev pub codes_dictionary : Codes N w n o e p h → List (List ℤ)
   codes_dictionary g = g.dictionary.tuples
+
+  -- the law of groups holds of each
+  pub codes_law : (g : Codes N w n o e p h) → IsGroup n.BITS (codes_columns g) (codes_codes g) (codes_dictionary g)
+  codes_law g = g.is

@@ -1,25 +1,28 @@
--- What a group of offset lists stands for.
+-- What contracts see of groups of offset lists.
 use Rattle.std.specs.Prelude.{ℕ, ℤ, List, Option}
-use Rattle.std.specs.declared.cmp.Ord.{Ghosts as OrdOf}
-use Rattle.std.specs.declared.cmp.PartialEq.{Ghosts as PartialEqOf}
-use Rattle.std.specs.declared.cmp.PartialOrd.{Ghosts as PartialOrdOf}
-use Rattle.std.specs.declared.hash.Hash.{Ghosts as HashOf}
-use Rattle.cla_num.specs.declared.number.Number.{Ghosts as NumberOf}
-use Rattle.cla_offsets.specs.declared.offsets.Offsets.{Offsets}
+use Rattle.std.specs.declared.cmp.Ord as ord
+use Rattle.std.specs.declared.cmp.PartialEq as partial_eq
+use Rattle.std.specs.declared.cmp.PartialOrd as partial_ord
+use Rattle.std.specs.declared.hash.Hash as hash
+use Rattle.cla_num.specs.declared.number.Number as number
+use Rattle.cla_group.specs.Groups.{IsGroup}
 use Rattle.cla_offsets.specs.Rows.{rest_in}
+use Rattle.cla_offsets.specs.declared.offsets.Offsets.{Offsets}
 
--- how many columns it has
-abbrev pub columns_of_offsets : {N : Type 0} {number : NumberOf N} {ord : OrdOf N} {eq : PartialEqOf N} {partial_ord : PartialOrdOf N} {hash : HashOf N} → Offsets N number ord eq partial_ord hash → ℕ
-columns_of_offsets g = g.dictionary.width
+module _ {N : Type 0} {n : number.Ghosts N} {o : ord.Ghosts N} {e : partial_eq.Ghosts N} {p : partial_ord.Ghosts N} {h : hash.Ghosts N} where
+  abbrev pub offsets_columns : Offsets N n o e p h → ℕ
+  offsets_columns g = g.dictionary.width
 
--- the code of each row
-abbrev pub codes_of_offsets : {N : Type 0} {number : NumberOf N} {ord : OrdOf N} {eq : PartialEqOf N} {partial_ord : PartialOrdOf N} {hash : HashOf N} → Offsets N number ord eq partial_ord hash → List ℕ
-codes_of_offsets g = g.rows.value.codes
+  abbrev pub offsets_codes : Offsets N n o e p h → List ℕ
+  offsets_codes g = g.rows.value.codes
 
--- its tuples
-abbrev pub dictionary_of_offsets : {N : Type 0} {number : NumberOf N} {ord : OrdOf N} {eq : PartialEqOf N} {partial_ord : PartialOrdOf N} {hash : HashOf N} → Offsets N number ord eq partial_ord hash → List (List ℤ)
-dictionary_of_offsets g = g.dictionary.tuples
+  abbrev pub offsets_dictionary : Offsets N n o e p h → List (List ℤ)
+  offsets_dictionary g = g.dictionary.tuples
 
--- the code that no list names, if there is one
-abbrev pub rest_of_offsets : {N : Type 0} {number : NumberOf N} {ord : OrdOf N} {eq : PartialEqOf N} {partial_ord : PartialOrdOf N} {hash : HashOf N} → Offsets N number ord eq partial_ord hash → Option ℕ
-rest_of_offsets g = rest_in g.rows.value
+  -- the code that no list names, if there is one
+  abbrev pub offsets_rest : Offsets N n o e p h → Option ℕ
+  offsets_rest g = rest_in g.rows.value
+
+  -- the law of groups holds of each
+  pub offsets_law : (g : Offsets N n o e p h) → IsGroup n.BITS (offsets_columns g) (offsets_codes g) (offsets_dictionary g)
+  offsets_law g = g.is

@@ -5,6 +5,7 @@ use Rattle.std.specs.declared.cmp.PartialEq as partial_eq
 use Rattle.std.specs.declared.cmp.PartialOrd as partial_ord
 use Rattle.std.specs.declared.hash.Hash as hash
 use Rattle.cla_num.specs.declared.number.Number as number
+use Rattle.cla_group.specs.Groups.{IsGroup}
 use Rattle.cla_runs.specs.Rows.{rest_in}
 use Rattle.cla_runs.specs.declared.runs.Runs.{Runs}
 
@@ -21,3 +22,7 @@ module _ {N : Type 0} {n : number.Ghosts N} {o : ord.Ghosts N} {e : partial_eq.G
   -- the code that no run names, if there is one
   abbrev pub runs_rest : Runs N n o e p h → Option ℕ
   runs_rest g = rest_in g.rows.value
+
+  -- the law of groups holds of each
+  pub runs_law : (g : Runs N n o e p h) → IsGroup n.BITS (runs_columns g) (runs_codes g) (runs_dictionary g)
+  runs_law g = g.is

@@ -1,0 +1,16 @@
+use Rattle.std.proofs.Common.{◌∙◌}
+use Rattle.cla_coded.specs.AnyGroups.{any_columns, any_dictionary, any_law}
+use Rattle.cla_coded.proofs.Copies.{all_places, all_projected, equal_parts}
+use Rattle.cla_coded.proofs.coded.copy_part.Goals as goal
+
+pub project-requires : goal.project-requires
+project-requires g c =
+    let group = c.args.part.now.group in
+    record { places = rw (c.deref-2.ensures.value, c.in_ok-places.ensures, c.width.ensures) (all_places (any_columns group) (any_law group).a_column) }
+
+pub returns-clause-part : goal.returns-clause-part
+returns-clause-part g c =
+    let group = c.args.part.now.group in
+    let kept = rw (c.deref-2.ensures.value, c.in_ok-places.ensures, c.width.ensures) at c.in_ok-group.ensures.dictionary in
+    equal_parts _ _ (c.in_ok-columns.ensures.items ∙ c.deref.ensures.value) c.in_ok-group.ensures.codes
+    (kept ∙ all_projected (any_columns group) (any_dictionary group) (any_law group).full)
