@@ -3,7 +3,7 @@ use Rattle.std.specs.Prelude.{◌≡◌, ℕ, ℤ, pos, ◌+ℤ◌, List, [], �
 use Rattle.cla_spec.specs.Numbers.{sum_to}
 use Rattle.cla_spec.specs.Matrix.{Matrix, IsShaped, IsWellMade}
 use Rattle.cla_group.specs.Groups.{cell_of}
-use Rattle.cla_coded.specs.Layouts.{LayoutPart, Layout, StandsFor, IsWhole, column_at, entry_in, matrix_in, transposed}
+use Rattle.cla_coded.specs.Layouts.{LayoutPart, Layout, StandsFor, IsWhole, column_at, entry_in, matrix_in, transposed, loose_layout}
 
 -- a value of each part, added up
 abbrev pub sum_over : (LayoutPart → ℤ) → List LayoutPart → ℤ
@@ -28,3 +28,7 @@ RowsSumByParts = (bits : ℕ) (layout : Layout) (f : ℕ → ℤ → ℤ) (i : �
 -- the transpose of the transpose is the matrix
 abbrev pub TransposedTwice : Type 0
 TransposedTwice = (m : Matrix) → IsShaped m.rows m.cols m.cells → transposed (transposed m) ≡ m
+
+-- a matrix as one group of all columns stands for the matrix
+abbrev pub LooseStands : Type 0
+LooseStands = (m : Matrix) → IsShaped m.rows m.cols m.cells → matrix_in (loose_layout m) ≡ m

@@ -1,6 +1,7 @@
 pub mod Layouts
 pub mod Parts
 pub mod Tables
+pub mod Outlines
 pub mod Laws
 pub mod Places
 pub mod Skeletons

@@ -1,6 +1,6 @@
 //! Laws of whole layouts, whichever groups they have.
 
-ghost use Rattle.cla_coded.specs.Laws.{LayoutsStand, LayoutsStandForOne, RowsSumByParts, TransposedTwice};
+ghost use Rattle.cla_coded.specs.Laws.{LayoutsStand, LayoutsStandForOne, RowsSumByParts, TransposedTwice, LooseStands};
 
 /// A whole layout stands for a matrix that is well made: the entry in each column is the value in the
 /// one part that has the column (PVLDB 9(12), section 3).
@@ -21,4 +21,9 @@ pub fn rows_sum_by_parts()
 /// The transpose of the transpose is the matrix.
 pub fn transposed_twice()
     ensures { TransposedTwice }
+{}
+
+/// A matrix that is kept as one group of all its columns, row by row, stands for itself.
+pub fn loose_stands()
+    ensures { LooseStands }
 {}

@@ -4,6 +4,8 @@
 // mod any_group;
 // mod any_impls;
 // mod coded;
+#[cfg(test)]
+mod borrowed;
 mod codes;
 mod dense;
 mod entry;
@@ -15,7 +17,9 @@ mod table;
 // pub use any_group::AnyGroup;
 // pub use coded::{Coded, copy, loose};
 pub use codes::codes_of;
-pub use laws::{layouts_stand, layouts_stand_for_one, rows_sum_by_parts, transposed_twice};
+pub use laws::{
+    layouts_stand, layouts_stand_for_one, loose_stands, rows_sum_by_parts, transposed_twice,
+};
 pub use part::Part;
 pub use skeleton::{Skeleton, SkeletonPart};
 pub use table::Table;
