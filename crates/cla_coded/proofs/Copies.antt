@@ -1,17 +1,19 @@
 -- Equal parts, and a matrix as one part.
 use Rattle.std.proofs.Common.{◌≡◌, ℕ, ℤ, pos, zero, suc, ◌+◌, ◌<◌, ◌≤◌, List, [], ◌∷◌, ◌++◌, length, map, get_or, refl, ap, sym, ◌∙◌, arith, inl, inr}
 use Rattle.std.specs.List.{range_with_len}
-use Rattle.std.proofs.lemmas.Bool.{cases_lt}
+use Rattle.std.proofs.lemmas.Bool.{cases_lt, lt-ltb}
 use Rattle.std.proofs.lemmas.List.{ext_get_or, get_or-map, length-map, append-nil, get_or_append_left, get_or_push, length_push}
 use Rattle.std.proofs.lemmas.List.FromFn.{length-map-range_with_len, get_or-map-range_with_len}
 use Rattle.cla_spec.specs.Numbers.{InRange}
-use Rattle.cla_spec.specs.Matrix.{Matrix, IsShaped}
+use Rattle.cla_spec.specs.Matrix.{Matrix, row_by_row, IsShaped}
 use Rattle.cla_group.specs.Groups.{at, occurrences_of}
 use Rattle.cla_group.specs.Tuples.{tuples_of}
 use Rattle.cla_group.specs.Rows.{ArePlaces, projected}
-use Rattle.cla_group.proofs.Counting.{rows_count, code_is, occurs_once, plain_group}
+use Rattle.cla_group.proofs.Counting.{rows_count, code_is, occurs_once, first_row_is, plain_group}
+use Rattle.cla_group.proofs.Tuples.{tuple_value}
 use Rattle.cla_group.proofs.Regroup.{first_row_there, code_of_first_row}
-use Rattle.cla_coded.specs.Layouts.{LayoutPart, IsWhole, IsPart, part_at, loose_layout}
+use Rattle.cla_coded.specs.Layouts.{LayoutPart, IsWhole, IsPart, index_of, part_at, entry_in, matrix_in, loose_layout}
+use Rattle.cla_coded.proofs.Matrices.{same_matrix}
 
 -- one more column
 pub columns_more : (n : ℕ) → range_with_len 0 n ++ n ∷ [] ≡ range_with_len 0 (n + 1)
@@ -87,3 +89,14 @@ equal_parts p q columns codes tuples =
     ap (λ (x : List ℕ). record { columns = x; codes = p.codes; tuples = p.tuples }) columns
     ∙ ap (λ (x : List ℕ). record { columns = q.columns; codes = x; tuples = p.tuples }) codes
     ∙ ap (λ (x : List (List ℤ)). record { columns = q.columns; codes = q.codes; tuples = x }) tuples
+
+-- the only part has each column in its place, so the layout stands for the matrix
+pub loose_stands : (m : Matrix) → IsShaped m.rows m.cols m.cells → matrix_in (loose_layout m) ≡ m
+loose_stands m shaped =
+    let columns = range_with_len 0 m.cols in
+    let tuples = tuples_of m.cols m.rows m.cells in
+    let cells : m.cells ≡ row_by_row m.rows m.cols (entry_in (loose_layout m).parts) = same_matrix m (entry_in (loose_layout m).parts) shaped (λ i j row col.
+    (let index : index_of columns j ≡ j = first_row_is m.cols j col in
+    let there : index_of columns j < length columns = omega (arith, index, col, rows_count m.cols) in
+    sym (rw (lt-ltb (index_of columns j) (length columns) there, index, code_is m.rows i row) (tuple_value m.cols m.rows m.cells i j row col)))) in
+    ap (λ (cs : List ℤ). record { rows = m.rows; cols = m.cols; cells = cs }) (sym cells)

@@ -1,6 +1,8 @@
 pub mod Columns
 pub mod Wholes
 pub mod PartSums
+pub mod PartFirsts
+pub mod PartValues
 pub mod Matrices
 pub mod OwnRows
 pub mod Outlines

@@ -1,9 +1,12 @@
 -- What holds of every whole layout.
-use Rattle.std.specs.Prelude.{◌≡◌, ℕ, ℤ, pos, ◌+ℤ◌, List, [], ◌∷◌, length}
+use Rattle.std.specs.Prelude.{◌≡◌, ℕ, ℤ, pos, ◌*◌, ◌<◌, ◌≤◌, ◌+ℤ◌, ◌↔◌, List, [], ◌∷◌, length, take, Bool, true, Option, None, slice_index_or}
 use Rattle.cla_spec.specs.Numbers.{sum_to}
-use Rattle.cla_spec.specs.Matrix.{Matrix, IsShaped, IsWellMade}
-use Rattle.cla_group.specs.Groups.{cell_of}
-use Rattle.cla_coded.specs.Layouts.{LayoutPart, Layout, StandsFor, IsWhole, column_at, entry_in, matrix_in, transposed}
+use Rattle.cla_spec.specs.Matrix.{Matrix, IsShaped, IsWellMade, sum_of_entries}
+use Rattle.cla_group.specs.Groups.{cell_of, value_of, first_row_of}
+use Rattle.cla_group.specs.Laws.{AreCodesOf}
+use Rattle.cla_coded.specs.Layouts.{LayoutPart, Layout, StandsFor, IsWhole, column_at, part_at, entry_in, matrix_in, transposed, loose_layout}
+use Rattle.cla_coded.specs.Firsts.{IsFirstOf, least_of, IsExtremeEntry, IsReached}
+use Rattle.cla_coded.specs.Values.{values_of, different_codes}
 
 -- a value of each part, added up
 abbrev pub sum_over : (LayoutPart → ℤ) → List LayoutPart → ℤ
@@ -25,6 +28,69 @@ RowsSumByParts = (bits : ℕ) (layout : Layout) (f : ℕ → ℤ → ℤ) (i : �
     sum_to (λ j. f j (entry_in layout.parts i j)) layout.cols
     ≡ sum_over (λ part. sum_to (λ c. f (column_at part.columns c) (cell_of part.codes part.tuples i c)) (length part.columns)) layout.parts
 
+-- a value of each cell, added up over rows and columns, is the same added up over the rows and places of each part, and
+-- over the parts
+abbrev pub SumsByParts : Type 0
+SumsByParts = (bits : ℕ) (layout : Layout) (f : ℕ → ℕ → ℤ → ℤ) → IsWhole bits layout →
+    sum_of_entries layout.rows layout.cols (λ i j. f i j (entry_in layout.parts i j))
+    ≡ sum_over (λ part. sum_of_entries layout.rows (length part.columns) (λ i c. f i (column_at part.columns c) (cell_of part.codes part.tuples i c))) layout.parts
+
+-- and so is a sum over the rows and columns of the transpose
+abbrev pub SumsTranspose : Type 0
+SumsTranspose = (rows cols : ℕ) (entry : ℕ → ℕ → ℤ) → sum_of_entries rows cols entry ≡ sum_of_entries cols rows (λ j i. entry i j)
+
+-- where a part has a value: the tuple's first row, and the column of the value's place
+abbrev pub first_cell : (ℕ → ℕ → ℕ) → LayoutPart → ℕ → ℕ → ℕ
+first_cell place part k c = place (first_row_of part.codes k) (column_at part.columns c)
+
+-- the first place at which a value of a part fails, if one does; what fails may depend on the column
+abbrev pub IsFirstOfPart : (ℕ → ℕ → ℕ) → (ℕ → ℤ → Bool) → LayoutPart → Option ℕ → Type 0
+IsFirstOfPart place fails part first =
+    IsFirstOf (length part.tuples) (length part.columns) (first_cell place part) (λ k c. fails (column_at part.columns c) (value_of part.tuples k c) ≡ true) first
+
+-- The first cell that fails is the least of the first places of the parts, and none fails where none fails in any part. The
+-- order of the places is free, as long as a later row of the same column has no earlier place: so this holds of tables and
+-- of their transposes.
+abbrev pub FirstPlacesByParts : Type 0
+FirstPlacesByParts = (bits : ℕ) (layout : Layout) (place : ℕ → ℕ → ℕ) (fails : ℕ → ℤ → Bool) (firsts : List (Option ℕ)) → IsWhole bits layout →
+    ((i r j : ℕ) → i ≤ r → place i j ≤ place r j) → length firsts ≡ length layout.parts →
+    ((q : ℕ) → q < length layout.parts → IsFirstOfPart place fails (part_at layout.parts q) (slice_index_or firsts q None)) →
+    IsFirstOf layout.rows layout.cols place (λ i j. fails j (entry_in layout.parts i j) ≡ true) (least_of firsts)
+
+-- rows and columns exchanged
+abbrev pub FirstPlacesTranspose : Type 0
+FirstPlacesTranspose = (rows cols : ℕ) (place : ℕ → ℕ → ℕ) (fails : ℕ → ℕ → Bool) (first : Option ℕ) →
+    IsFirstOf rows cols place (λ i j. fails i j ≡ true) first → IsFirstOf cols rows (λ j i. place i j) (λ j i. fails i j ≡ true) first
+
+-- v is a value of a tuple of a part, and stands before all of them: f gives the value of a column and an entry
+pub record IsExtremeOfParts (Before : ℤ → ℤ → Type 0) (f : ℕ → ℤ → ℤ) (parts : List LayoutPart) (v : ℤ) : Type 0 where
+  pub reached : (q : ℕ) × (q < length parts) × IsReached f (part_at parts q) v
+  pub before : (q k c : ℕ) → q < length parts → k < length (part_at parts q).tuples → c < length (part_at parts q).columns →
+      Before v (f (column_at (part_at parts q).columns c) (value_of (part_at parts q).tuples k c))
+
+-- the least or the greatest entry is that of the tuples of all parts
+abbrev pub ExtremesByParts : Type 0
+ExtremesByParts = (bits : ℕ) (layout : Layout) (before : ℤ → ℤ → Bool) (f : ℕ → ℤ → ℤ) (v : ℤ) → IsWhole bits layout →
+    IsExtremeEntry (λ x y. before x y ≡ true) layout.rows layout.cols (λ i j. f j (entry_in layout.parts i j)) v
+    ↔ IsExtremeOfParts (λ x y. before x y ≡ true) f layout.parts v
+
+-- rows and columns exchanged
+abbrev pub ExtremesTranspose : Type 0
+ExtremesTranspose = (before : ℤ → ℤ → Bool) (rows cols : ℕ) (entry : ℕ → ℕ → ℤ) (v : ℤ) →
+    IsExtremeEntry (λ x y. before x y ≡ true) rows cols entry v → IsExtremeEntry (λ x y. before x y ≡ true) cols rows (λ j i. entry i j) v
+
+-- the values of the first parts of a layout are no more than its cells
+abbrev pub ValuesAreFew : Type 0
+ValuesAreFew = (bits : ℕ) (layout : Layout) (q : ℕ) → IsWhole bits layout → values_of (take q layout.parts) ≤ layout.rows * layout.cols
+
+-- a group has as many tuples as different codes
+abbrev pub CodesCountTuples : Type 0
+CodesCountTuples = (n : ℕ) (codes : List ℕ) → AreCodesOf n codes → different_codes codes ≡ n
+
 -- the transpose of the transpose is the matrix
 abbrev pub TransposedTwice : Type 0
 TransposedTwice = (m : Matrix) → IsShaped m.rows m.cols m.cells → transposed (transposed m) ≡ m
+
+-- a matrix as one group of all columns stands for the matrix
+abbrev pub LooseStands : Type 0
+LooseStands = (m : Matrix) → IsShaped m.rows m.cols m.cells → matrix_in (loose_layout m) ≡ m

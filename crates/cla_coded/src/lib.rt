@@ -1,8 +1,16 @@
 //! Tables: matrices that are kept as groups of columns of any kind, and their transposes.
 #![tactic(auto)]
 
+<<<<<<< HEAD
 mod any_group;
 mod coded;
+=======
+// mod any_group;
+// mod any_impls;
+// mod coded;
+#[cfg(test)]
+mod borrowed;
+>>>>>>> d3fe8c3ff8645f054eb0787b1a3cfd62652dd792
 mod codes;
 mod dense;
 mod entry;
@@ -14,7 +22,11 @@ mod table;
 pub use any_group::AnyGroup;
 pub use coded::{Coded, copy, loose};
 pub use codes::codes_of;
-pub use laws::{layouts_stand, layouts_stand_for_one, rows_sum_by_parts, transposed_twice};
+pub use laws::{
+    codes_count_tuples, extremes_by_parts, extremes_transpose, first_places_by_parts,
+    first_places_transpose, layouts_stand, layouts_stand_for_one, loose_stands, rows_sum_by_parts,
+    sums_by_parts, sums_transpose, transposed_twice, values_are_few,
+};
 pub use part::Part;
 pub use skeleton::{Skeleton, SkeletonPart};
 pub use table::Table;

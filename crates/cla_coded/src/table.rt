@@ -1,9 +1,10 @@
 //! Tables of groups.
 
-ghost use Rattle.std.specs.Prelude.{◌≡◌, ◌<◌, not, IfOk};
+ghost use Rattle.std.specs.Prelude.{◌≡◌, ◌<◌, not, map, IfOk};
 ghost use Rattle.cla_coded.specs.Layouts.{IsWhole, layout_with};
 ghost use Rattle.cla_coded.specs.Parts.{parts_of};
 ghost use Rattle.cla_coded.specs.Tables.{layout_of, rows_of_table, cols_of_table, table_entry, matrix_of};
+ghost use Rattle.cla_coded.specs.Outlines.{outline};
 ghost use Rattle.cla_coded.specs.Skeletons.{view_of, skeleton_of};
 
 use crate::dense::{Shape, cells_of};
@@ -53,6 +54,22 @@ impl<N: Number, G: Group<N>> Table<N, G> {
             rows,
             cols,
             flipped,
+            parts,
+            numbers: PhantomData,
+        }
+    }
+
+    /// The table of the same shape with these parts, whose groups have the same columns and codes, and
+    /// any values. An operator makes its result by it.
+    pub fn with_parts<H: Group<N>>(&self, parts: Vec<Part<H>>) -> Table<N, H>
+        requires { map (outline H.columns H.codes) parts.items ≡ map (outline G.columns G.codes) self.now.parts }
+        ensures { let old = self.now in
+            result ≡ record { rows = old.rows; cols = old.cols; flipped = old.flipped; parts = parts.items } }
+    {
+        Table {
+            rows: self.rows,
+            cols: self.cols,
+            flipped: self.flipped,
             parts,
             numbers: PhantomData,
         }

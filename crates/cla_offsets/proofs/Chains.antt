@@ -1,5 +1,6 @@
 -- Lists that stand one after the other.
-use Rattle.std.proofs.Common.{◌≡◌, ℕ, zero, suc, ◌+◌, ◌*◌, ◌<◌, ◌≤◌, List, [], ◌∷◌, ◌++◌, length, take, drop, refl, subst, ap, sym, ◌∙◌, arith, inl, inr}
+use Rattle.std.proofs.Common.{◌≡◌, ℕ, zero, suc, ◌+◌, ◌*◌, ◌<◌, ◌≤◌, List, [], ◌∷◌, ◌++◌, length, take, drop}
+use Rattle.std.proofs.Common.{refl, ap, sym, ◌∙◌, arith, inl, inr}
 use Rattle.std.proofs.Math.Seq.{drop-append-add}
 use Rattle.std.proofs.lemmas.Bool.{cases_eq}
 use Rattle.std.proofs.lemmas.List.{length-append, length-drop, drop-append-le, take-append-le, get_or-take, get_or-drop}
@@ -25,12 +26,15 @@ pub list_within_all : (f : ℕ → List ℕ) (i n : ℕ) → i < n → length (l
 unfolding lists_to
 list_within_all f i zero there = absurd (omega (arith, there))
 list_within_all f i (suc n) there = elim (cases_eq i n) [
-  | inl same ↦ omega (arith, length-append (lists_to f n) (f n), ap (λ (m : ℕ). length (lists_to f m)) same, ap (λ (m : ℕ). length (f m)) same)
+  | inl same ↦
+      let equal = ap (λ (m : ℕ). length (lists_to f m) + length (f m)) same in
+      omega (arith, length-append (lists_to f n) (f n), equal)
   | inr other ↦ omega (arith, length-append (lists_to f n) (f n), list_within_all f i n (omega (arith, there, other)))
 ]
 
 -- the items from place j on of list i, among all of them
-pub list_part : (f : ℕ → List ℕ) (i n j m : ℕ) → i < n → j + m ≤ length (f i) → take m (drop (length (lists_to f i) + j) (lists_to f n)) ≡ take m (drop j (f i))
+pub list_part : (f : ℕ → List ℕ) (i n j m : ℕ) → i < n → j + m ≤ length (f i) →
+    take m (drop (length (lists_to f i) + j) (lists_to f n)) ≡ take m (drop j (f i))
 unfolding lists_to
 list_part f i zero j m there within = absurd (omega (arith, there))
 list_part f i (suc n) j m there within = elim (cases_eq i n) [
@@ -42,19 +46,24 @@ list_part f i (suc n) j m there within = elim (cases_eq i n) [
       let all = lists_to f n in
       let p = length (lists_to f i) + j in
       let fits : p + m ≤ length all = omega (arith, list_within_all f i n before, within) in
-      ap (take m) (drop-append-le p all (f n) (omega (arith, fits))) ∙ take-append-le m (drop p all) (f n) (omega (arith, length-drop p all, fits))
+      ap (take m) (drop-append-le p all (f n) (omega (arith, fits)))
+      ∙ take-append-le m (drop p all) (f n) (omega (arith, length-drop p all, fits))
       ∙ list_part f i n j m before within
 ]
 
 -- one item
 first_item : (xs : List ℕ) (p : ℕ) → code_of (take 1 (drop p xs)) 0 ≡ code_of xs p
-first_item xs p = let here : p + 0 ≡ p = omega arith in get_or-take 1 (drop p xs) 0 0 (omega arith) ∙ get_or-drop p xs 0 0 ∙ ap (code_of xs) here
+first_item xs p =
+    let here : p + 0 ≡ p = omega arith in
+    get_or-take 1 (drop p xs) 0 0 (omega arith) ∙ get_or-drop p xs 0 0 ∙ ap (code_of xs) here
 
-pub list_item : (f : ℕ → List ℕ) (i n j : ℕ) → i < n → j < length (f i) → code_of (lists_to f n) (length (lists_to f i) + j) ≡ code_of (f i) j
+pub list_item : (f : ℕ → List ℕ) (i n j : ℕ) → i < n → j < length (f i) →
+    code_of (lists_to f n) (length (lists_to f i) + j) ≡ code_of (f i) j
 list_item f i n j there within =
     let all = lists_to f n in
     let p = length (lists_to f i) + j in
-    sym (first_item all p) ∙ ap (λ (xs : List ℕ). code_of xs 0) (list_part f i n j 1 there (omega (arith, within))) ∙ first_item (f i) j
+    let part = list_part f i n j 1 there (omega (arith, within)) in
+    sym (first_item all p) ∙ ap (λ (xs : List ℕ). code_of xs 0) part ∙ first_item (f i) j
 
 -- where list i begins
 pub begins_count : (f : ℕ → List ℕ) (n : ℕ) → length (begins_to f n) ≡ n

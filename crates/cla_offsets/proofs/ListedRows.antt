@@ -1,5 +1,6 @@
 -- Rows that are listed of codes.
-use Rattle.std.proofs.Common.{◌≡◌, true, false, Bool, ℕ, zero, suc, ◌+◌, ◌<◌, ◌≤◌, List, [], length, cond, eqb, refl, subst, ap, sym, ◌∙◌, arith, inl, inr}
+use Rattle.std.proofs.Common.{◌≡◌, true, false, Bool, ℕ, zero, suc, ◌+◌, ◌<◌, ◌≤◌, List, [], length, cond, eqb}
+use Rattle.std.proofs.Common.{refl, subst, ap, sym, ◌∙◌, arith, inl, inr}
 use Rattle.std.specs.List.{list_any}
 use Rattle.std.proofs.lemmas.Bool.{cases_eq, eq-eqb, ne_eqb, eqb-true}
 use Rattle.std.proofs.lemmas.List.{length-append}
@@ -43,25 +44,22 @@ rows_are_listed codes rest k =
     }
 
 pub are_listed : (codes : List ℕ) (rest k : ℕ) (list : List ℕ) → list ≡ listed codes rest k → AreListed codes rest k list
-are_listed codes rest k list is = subst (AreListed codes rest k) (sym is) (elim (cases_eq k rest) [
-  | inl same ↦ subst (λ (b : Bool). AreListed codes rest k (cond b [] (rows_of codes k))) (sym (eq-eqb k rest same)) (none_listed codes rest k same)
-  | inr other ↦ subst (λ (b : Bool). AreListed codes rest k (cond b [] (rows_of codes k))) (sym (ne_eqb k rest other)) (rows_are_listed codes rest k)
-])
+are_listed codes rest k list is =
+    let Are = λ (b : Bool). AreListed codes rest k (cond b [] (rows_of codes k)) in
+    subst (AreListed codes rest k) (sym is) (elim (cases_eq k rest) [
+      | inl same ↦ subst Are (sym (eq-eqb k rest same)) (none_listed codes rest k same)
+      | inr other ↦ subst Are (sym (ne_eqb k rest other)) (rows_are_listed codes rest k)
+    ])
 
 -- the lists of codes below k
 pub listed_below : (codes : List ℕ) (rest k : ℕ) → length (lists_to (listed codes rest) k) ≤ below codes k
 listed_below codes rest zero = omega (arith, ap (λ (xs : List ℕ). length xs) (lists_none (listed codes rest)))
 listed_below codes rest (suc k) =
+    let f = listed codes rest in
     let next : k + 1 ≡ suc k = omega arith in
-    subst (λ (n : ℕ). length (lists_to (listed codes rest) n) ≤ below codes n) next
-    (omega (
-      arith,
-      ap (λ (xs : List ℕ). length xs) (lists_more (listed codes rest) k),
-      length-append (lists_to (listed codes rest) k) (listed codes rest k),
-      (are_listed codes rest k (listed codes rest k) refl).few,
-      below_more codes k,
-      listed_below codes rest k,
-    ))
+    let more = ap (λ (xs : List ℕ). length xs) (lists_more f k) ∙ length-append (lists_to f k) (f k) in
+    subst (λ (n : ℕ). length (lists_to f n) ≤ below codes n) next
+    (omega (arith, more, (are_listed codes rest k (f k) refl).few, below_more codes k, listed_below codes rest k))
 
 pub listed_few : (codes : List ℕ) (rest k : ℕ) → length (lists_to (listed codes rest) k) ≤ length codes
 listed_few codes rest k = omega (arith, listed_below codes rest k, below_few codes k)
@@ -71,6 +69,8 @@ list_has_if : (j : ℕ) (b : Bool) (xs : List ℕ) → list_any (λ o. eqb o j) 
 list_has_if j true xs = refl
 list_has_if j false xs = refl
 
-pub list_has : (codes : List ℕ) (rest k j : ℕ) → j < length codes → list_any (λ o. eqb o j) (listed codes rest k) ≡ cond (eqb k rest) false (eqb (code_of codes j) k)
+pub list_has : (codes : List ℕ) (rest k j : ℕ) → j < length codes →
+    list_any (λ o. eqb o j) (listed codes rest k) ≡ cond (eqb k rest) false (eqb (code_of codes j) k)
 list_has codes rest k j row =
-    list_has_if j (eqb k rest) (rows_of codes k) ∙ ap (λ (b : Bool). cond (eqb k rest) false b) (row_listed (λ i. eqb (code_of codes i) k) (length codes) j row)
+    list_has_if j (eqb k rest) (rows_of codes k)
+    ∙ ap (λ (b : Bool). cond (eqb k rest) false b) (row_listed (λ i. eqb (code_of codes i) k) (length codes) j row)

@@ -1,5 +1,6 @@
 -- The rows of a segment.
-use Rattle.std.proofs.Common.{◌≡◌, ℕ, ◌+◌, ◌-◌, ◌*◌, ◌/◌, ◌%◌, ◌<◌, ◌≤◌, ◌++◌, List, length, take, drop, ap, sym, ◌∙◌, arith, inl, inr, length-take}
+use Rattle.std.proofs.Common.{◌≡◌, ℕ, ◌+◌, ◌-◌, ◌*◌, ◌/◌, ◌%◌, ◌<◌, ◌≤◌, ◌++◌, List, length, take, drop, length-take, length-append}
+use Rattle.std.proofs.Common.{ap, sym, ◌∙◌, arith, inl, inr}
 use Rattle.std.specs.Prelude.{min, max}
 use Rattle.std.proofs.Math.Seq.{take-add}
 use Rattle.std.proofs.lemmas.Bool.{cases_lt}
@@ -11,10 +12,25 @@ pub segment_size : (codes : List ℕ) (s : ℕ) → length (segment_of codes s) 
 segment_size codes s = length-take segment_rows (drop (s * segment_rows) codes) ∙ ap (min segment_rows) (length-drop (s * segment_rows) codes)
 
 -- the codes of a segment are those of the rows from its first one on
-pub segment_row : (codes : List ℕ) (s j : ℕ) → j < length (segment_of codes s) → (j < segment_rows) × (s * segment_rows + j < length codes) × (code_of (segment_of codes s) j ≡ code_of codes (s * segment_rows + j))
+pub segment_row : (codes : List ℕ) (s j : ℕ) → j < length (segment_of codes s) →
+    (j < segment_rows) × (s * segment_rows + j < length codes) × (code_of (segment_of codes s) j ≡ code_of codes (s * segment_rows + j))
 segment_row codes s j there =
+    let rows = drop (s * segment_rows) codes in
     let within : j < segment_rows = omega (arith, there, segment_size codes s) in
-    (within, omega (arith, there, segment_size codes s), get_or-take segment_rows (drop (s * segment_rows) codes) j 0 within ∙ get_or-drop (s * segment_rows) codes j 0)
+    (within, omega (arith, there, segment_size codes s), get_or-take segment_rows rows j 0 within ∙ get_or-drop (s * segment_rows) codes j 0)
+
+-- the segment of a row, and its place there
+pub row_in_segment : (codes : List ℕ) (i : ℕ) → i < length codes →
+    (i % segment_rows < length (segment_of codes (i / segment_rows))) × (code_of (segment_of codes (i / segment_rows)) (i % segment_rows) ≡ code_of codes i)
+row_in_segment codes i row =
+    let s = i / segment_rows in
+    let place : s * segment_rows + i % segment_rows ≡ i = omega arith in
+    let inside : i % segment_rows < length (segment_of codes s) = omega (arith, segment_size codes s, place, row) in
+    (inside, (segment_row codes s (i % segment_rows) inside).2 ∙ ap (code_of codes) place)
+
+-- a segment that begins within the rows is one of them
+pub segment_there : (rows s : ℕ) → s * segment_rows < rows → s < segments_of rows
+segment_there rows s begins = omega (arith, begins)
 
 -- the rows of a segment, cut out
 pub segment_cut : (codes : List ℕ) (s n : ℕ) → n ≡ min segment_rows (length codes - s * segment_rows) → take n (drop (s * segment_rows) codes) ≡ segment_of codes s
@@ -26,35 +42,37 @@ segment_cut codes s n is = elim (cases_lt (length codes - s * segment_rows) segm
   | inr full ↦ (let all : n ≡ segment_rows = omega (arith, is, full) in ap (λ (m : ℕ). take m (drop (s * segment_rows) codes)) all)
 ]
 
--- a segment that begins within the rows is one of them
-pub segment_there : (rows s : ℕ) → s * segment_rows < rows → s < segments_of rows
-segment_there rows s begins = omega (arith, begins)
+-- the part of a buffer that holds a segment, and the buffer with the segment in it
+pub buffer_part : (codes : List ℕ) (s : ℕ) (buffer : List ℕ) (n : ℕ) → length buffer ≡ segment_rows → n ≡ min (length codes - s * segment_rows) segment_rows →
+    length (take n buffer) ≡ length (segment_of codes s)
+buffer_part codes s buffer n room is = omega (arith, length-take n buffer, segment_size codes s, is, room)
 
--- the segment of a row, and its place there
-pub row_in_segment : (codes : List ℕ) (i : ℕ) → i < length codes → (i % segment_rows < length (segment_of codes (i / segment_rows))) × (code_of (segment_of codes (i / segment_rows)) (i % segment_rows) ≡ code_of codes i)
-row_in_segment codes i row =
-    let place : i / segment_rows * segment_rows + i % segment_rows ≡ i = omega arith in
-    let inside : i % segment_rows < length (segment_of codes (i / segment_rows)) = omega (arith, segment_size codes (i / segment_rows), place, row) in
-    (inside, (segment_row codes (i / segment_rows) (i % segment_rows) inside).2 ∙ ap (code_of codes) place)
+pub buffer_kept : (codes : List ℕ) (s : ℕ) (buffer segment : List ℕ) (n : ℕ) → length buffer ≡ segment_rows →
+    n ≡ min (length codes - s * segment_rows) segment_rows → segment ≡ segment_of codes s → length (segment ++ drop n buffer) ≡ segment_rows
+buffer_kept codes s buffer segment n room is holds =
+    omega (arith, length-append segment (drop n buffer), length-drop n buffer, ap length holds, segment_size codes s, is, room)
 
 -- some of a segment's codes
-segment_part : (codes : List ℕ) (s begin m : ℕ) → begin + m ≤ segment_rows → take m (drop begin (segment_of codes s)) ≡ take m (drop (s * segment_rows + begin) codes)
+segment_part : (codes : List ℕ) (s begin m : ℕ) → begin + m ≤ segment_rows →
+    take m (drop begin (segment_of codes s)) ≡ take m (drop (s * segment_rows + begin) codes)
 segment_part codes s begin m within =
     let rows = drop (s * segment_rows) codes in
     let whole : begin + (segment_rows - begin) ≡ segment_rows = omega (arith, within) in
     ap (λ (n : ℕ). take m (drop begin (take n rows))) (sym whole) ∙ ap (take m) (drop-take begin (segment_rows - begin) rows)
     ∙ take-take m (segment_rows - begin) (drop begin rows) (omega (arith, within)) ∙ ap (take m) (drop-drop begin (s * segment_rows) codes)
 
--- the codes from row a to before row b, segment by segment
-abbrev pub past_row : ℕ → ℕ → ℕ → ℕ
-past_row a b s = min b (max a (s * segment_rows))
+-- the codes from row a to before row b, as far as they stand before segment s
+abbrev pub codes_to : List ℕ → ℕ → ℕ → ℕ → List ℕ
+codes_to codes a b s = take (min b (max a (s * segment_rows)) - a) (drop a codes)
 
-pub between_more : (codes : List ℕ) (a b s begin end : ℕ) → a < b → s * segment_rows < b → a < (s + 1) * segment_rows → begin ≡ max a (s * segment_rows) - s * segment_rows → end ≡ min b (s * segment_rows + segment_rows) - s * segment_rows →
-    take (past_row a b s - a) (drop a codes) ++ take (end - begin) (drop begin (segment_of codes s)) ≡ take (past_row a b (s + 1) - a) (drop a codes)
-between_more codes a b s begin end some s_before a_before begins ends =
-    let n = past_row a b s - a in
+pub codes_more : (codes : List ℕ) (a b s begin end : ℕ) → a < b → s * segment_rows < b → a < (s + 1) * segment_rows →
+    begin ≡ max a (s * segment_rows) - s * segment_rows → end ≡ min b (s * segment_rows + segment_rows) - s * segment_rows →
+    codes_to codes a b s ++ take (end - begin) (drop begin (segment_of codes s)) ≡ codes_to codes a b (s + 1)
+codes_more codes a b s begin end some s_before a_before begins ends =
+    let n = min b (max a (s * segment_rows)) - a in
     let m = end - begin in
     let place : s * segment_rows + begin ≡ a + n = omega (arith, some, s_before, begins) in
-    let size : n + m ≡ past_row a b (s + 1) - a = omega (arith, some, s_before, a_before, begins, ends) in
-    ap (λ (xs : List ℕ). take n (drop a codes) ++ xs) (segment_part codes s begin m (omega (arith, begins, ends, a_before)) ∙ ap (λ (x : ℕ). take m (drop x codes)) place ∙ sym (ap (take m) (drop-drop n a codes)))
+    let size : n + m ≡ min b (max a ((s + 1) * segment_rows)) - a = omega (arith, some, s_before, a_before, begins, ends) in
+    let part = segment_part codes s begin m (omega (arith, begins, ends, a_before)) ∙ ap (λ (x : ℕ). take m (drop x codes)) place in
+    ap (λ (xs : List ℕ). codes_to codes a b s ++ xs) (part ∙ sym (ap (take m) (drop-drop n a codes)))
     ∙ sym (take-add n m (drop a codes)) ∙ ap (λ (x : ℕ). take x (drop a codes)) size

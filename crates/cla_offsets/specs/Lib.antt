@@ -1,3 +1,4 @@
 pub mod Rows
 pub mod Segments
+pub mod Walks
 pub mod Members

@@ -1,10 +1,13 @@
 -- Rows that are kept as lists of offsets, by segments of rows (PVLDB 9(12), section 3, offset-list encoding).
-use Rattle.std.specs.Prelude.{◌≡◌, ℕ, suc, zero, ◌+◌, ◌-◌, ◌*◌, ◌/◌, ◌%◌, ◌<◌, ◌≤◌, List, [], ◌∷◌, ◌++◌, length, map, take, drop, Bool, ◌==◌, nat_lt, if◌then◌else◌}
+use Rattle.std.specs.Prelude.{◌≡◌, ℕ, suc, zero, ◌+◌, ◌-◌, ◌*◌, ◌/◌, ◌%◌, ◌<◌, ◌≤◌, List, [], ◌∷◌, ◌++◌}
+use Rattle.std.specs.Prelude.{length, map, take, drop, Bool, ◌==◌, nat_lt, if◌then◌else◌}
 use Rattle.std.specs.List.{range_with_len, position_or_len, list_any}
 use Rattle.cla_spec.specs.Matrix.{most_cells}
+use Rattle.cla_group.specs.declared.row_counts.Occurrences.{Occurrences}
 use Rattle.cla_group.specs.Groups.{code_of}
 use Rattle.cla_group.specs.Counted.{AreCounted}
 use Rattle.cla_group.specs.Listed.{rows_of}
+use Rattle.cla_offsets.specs.declared.lists.Lists.{Lists}
 use Rattle.cla_offsets.specs.Rows.{OffsetsOf}
 
 -- how many rows a segment has, if it isn't the last
@@ -36,44 +39,60 @@ lists_to f (suc n) = lists_to f n ++ f n
 abbrev pub begins_to : (ℕ → List ℕ) → ℕ → List ℕ
 begins_to f n = lists_to (λ i. length (lists_to f i) ∷ []) n
 
--- the lists of segment s, code by code, and where each of them begins and the last one ends
-abbrev pub lists_of : List ℕ → ℕ → ℕ → ℕ → List ℕ
-lists_of codes tuples rest s = lists_to (listed (segment_of codes s) rest) tuples
+-- the list of each code in segment s
+abbrev pub list_of : OffsetsOf → ℕ → ℕ → List ℕ
+list_of v s = listed (segment_of v.codes s) v.rest
 
-abbrev pub starts_of : List ℕ → ℕ → ℕ → ℕ → List ℕ
-starts_of codes tuples rest s = begins_to (listed (segment_of codes s) rest) (tuples + 1)
+-- all lists of segment s, and where each of them begins and the last one ends
+abbrev pub lists_of : OffsetsOf → ℕ → List ℕ
+lists_of v s = lists_to (list_of v s) v.tuples
 
--- the lists of the first n segments
-pub record AreLists (n : ℕ) (codes : List ℕ) (tuples rest : ℕ) (bases starts offsets : List ℕ) : Type 0 where
-  pub bases_are : bases ≡ begins_to (lists_of codes tuples rest) n
-  pub starts_are : starts ≡ lists_to (starts_of codes tuples rest) n
-  pub offsets_are : offsets ≡ lists_to (lists_of codes tuples rest) n
+abbrev pub starts_of : OffsetsOf → ℕ → List ℕ
+starts_of v s = begins_to (list_of v s) (v.tuples + 1)
+
+-- the lists of the first n segments are kept
+pub record AreLists (n : ℕ) (v : OffsetsOf) (l : Lists) : Type 0 where
+  pub bases : l.bases.items ≡ begins_to (lists_of v) n
+  pub starts : l.starts.items ≡ lists_to (starts_of v) n
+  pub offsets : l.offsets.items ≡ lists_to (lists_of v) n
+
+-- the lists of one more segment, whose rows have these codes
+pub record AreAdded (codes : List ℕ) (tuples rest : ℕ) (old new : Lists) : Type 0 where
+  pub bases : new.bases.items ≡ old.bases.items ++ length old.offsets.items ∷ []
+  pub starts : new.starts.items ≡ old.starts.items ++ begins_to (listed codes rest) (tuples + 1)
+  pub offsets : new.offsets.items ≡ old.offsets.items ++ lists_to (listed codes rest) tuples
 
 -- where the list of code k in segment s begins: after those of the segments before it, and of the codes before it
-abbrev pub list_begin : List ℕ → ℕ → ℕ → ℕ → ℕ → ℕ
-list_begin codes tuples rest s k = length (lists_to (lists_of codes tuples rest) s) + length (lists_to (listed (segment_of codes s) rest) k)
+abbrev pub list_begin : OffsetsOf → ℕ → ℕ → ℕ
+list_begin v s k = length (lists_to (lists_of v) s) + length (lists_to (list_of v s) k)
 
--- the same as it is kept
-abbrev pub begin_kept : ℕ → List ℕ → List ℕ → ℕ → ℕ → ℕ
-begin_kept tuples bases starts s k = code_of bases s + code_of starts (s * (tuples + 1) + k)
+-- where it begins as that is kept, and what is kept of it
+abbrev pub begin_kept : ℕ → Lists → ℕ → ℕ → ℕ
+begin_kept tuples l s k = code_of l.bases.items s + code_of l.starts.items (s * (tuples + 1) + k)
 
--- the list of code k in segment s as it is kept
-abbrev pub list_kept : ℕ → List ℕ → List ℕ → List ℕ → ℕ → ℕ → List ℕ
-list_kept tuples bases starts offsets s k = let begin = begin_kept tuples bases starts s k in take (begin_kept tuples bases starts s (k + 1) - begin) (drop begin offsets)
+abbrev pub list_kept : ℕ → Lists → ℕ → ℕ → List ℕ
+list_kept tuples l s k = let begin = begin_kept tuples l s k in take (begin_kept tuples l s (k + 1) - begin) (drop begin l.offsets.items)
 
 -- the code of the row with offset j, by the lists of its segment: the code whose list has it, or else the rest
 abbrev pub code_in : ℕ → ℕ → (ℕ → List ℕ) → ℕ → ℕ
-code_in tuples rest lists j = let k = position_or_len (λ k. list_any (λ o. o == j) (lists k)) (range_with_len 0 tuples) in if nat_lt k tuples then k else rest
+code_in tuples rest lists j =
+    let k = position_or_len (λ k. list_any (λ o. o == j) (lists k)) (range_with_len 0 tuples) in
+    if nat_lt k tuples then k else rest
 
--- the codes of all rows
-unfoldable pub codes_of_lists : ℕ → ℕ → ℕ → List ℕ → List ℕ → List ℕ → List ℕ
-codes_of_lists rows tuples rest bases starts offsets = map (λ i. code_in tuples rest (list_kept tuples bases starts offsets (i / segment_rows)) (i % segment_rows)) (range_with_len 0 rows)
+-- the rows that are kept by these lists
+unfoldable pub codes_kept : ℕ → ℕ → ℕ → Lists → List ℕ
+codes_kept rows tuples rest l = map (λ i. code_in tuples rest (list_kept tuples l (i / segment_rows)) (i % segment_rows)) (range_with_len 0 rows)
+
+abbrev pub rows_kept : ℕ → ℕ → ℕ → Lists → OffsetsOf
+rows_kept rows tuples rest l = record { codes = codes_kept rows tuples rest l; tuples = tuples; rest = rest }
 
 -- what is kept of rows
-pub record AreKept (v : OffsetsOf) (rows : ℕ) (bases starts offsets counts first_rows : List ℕ) : Type 0 where
-  pub count : length v.codes ≡ rows
+pub record AreKept (v : OffsetsOf) (rows tuples rest : ℕ) (l : Lists) (o : Occurrences) : Type 0 where
+  pub count : rows ≡ length v.codes
+  pub tuples_are : tuples ≡ v.tuples
+  pub rest_is : rest ≡ v.rest
   pub few : rows ≤ most_cells
-  pub few_tuples : v.tuples ≤ most_cells
+  pub few_tuples : tuples ≤ most_cells
   pub in_tuples : (i : ℕ) → i < length v.codes → code_of v.codes i < v.tuples
-  pub lists : AreLists (segments_of rows) v.codes v.tuples v.rest bases starts offsets
-  pub counted : AreCounted v.codes v.tuples counts first_rows
+  pub lists : AreLists (segments_of rows) v l
+  pub counted : AreCounted v.codes v.tuples o.counts.items o.first_rows.items

@@ -1,11 +1,12 @@
 //! The calls of a group of offset lists.
 
-ghost use Rattle.std.specs.Prelude.{◌≡◌, ◌<◌, ◌*◌, ◌/◌, false, length, map, IfOk};
+ghost use Rattle.std.specs.Prelude.{◌≡◌, ◌<◌, ◌*◌, ◌/◌, false, length, IfOk};
 ghost use Rattle.cla_group.specs.Groups.{code_of, IsGroup};
-ghost use Rattle.cla_group.specs.Tuples.{AreCodes, tuples_of};
+ghost use Rattle.cla_group.specs.Tuples.{AreCodes};
 ghost use Rattle.cla_group.specs.Listed.{is_rest, rest_of};
 ghost use Rattle.cla_offsets.specs.Segments.{segment_rows, segment_offsets};
-ghost use Rattle.cla_offsets.specs.Rows.{rest_in};
+ghost use Rattle.cla_offsets.specs.Members.{tuples_in, offsets_columns, offsets_codes};
+ghost use Rattle.cla_offsets.specs.Members.{offsets_dictionary, offsets_rest};
 
 use crate::offsets::Offsets;
 use crate::rows::OffsetRows;
@@ -25,10 +26,10 @@ impl<N: Number> Offsets<N> {
         values: Vec<N>,
     ) -> Result<Offsets<N>, Memory>
         requires codes { AreCodes width (length values.items / width) codes.now (length values.items) }
-        ensures columns { IfOk result (λ g. ⟦<Offsets<N> as Group<N>>⟧.columns g ≡ width) }
-        ensures codes { IfOk result (λ g. ⟦<Offsets<N> as Group<N>>⟧.codes g ≡ codes.now) }
-        ensures dictionary { IfOk result (λ g. ⟦<Offsets<N> as Group<N>>⟧.dictionary g ≡ tuples_of width (length values.items / width) (map N.value values.items)) }
-        ensures rest { IfOk result (λ g. rest_in g.rows.value ≡ rest_of codes.now (tuples_of width (length values.items / width) (map N.value values.items))) }
+        ensures columns { IfOk result (λ g. offsets_columns g ≡ width) }
+        ensures codes { IfOk result (λ g. offsets_codes g ≡ codes.now) }
+        ensures dictionary { IfOk result (λ g. offsets_dictionary g ≡ tuples_in N.value width values.items) }
+        ensures rest { IfOk result (λ g. offsets_rest g ≡ rest_of codes.now (tuples_in N.value width values.items)) }
     {
         let tuples = (values.len() / width as usize) as u32;
         let dictionary = Dictionary::new(width, tuples, values);
@@ -43,8 +44,8 @@ impl<N: Number> Offsets<N> {
     ) -> Result<Offsets<N>, Memory>
         requires { IsGroup N.BITS dictionary.width codes.now dictionary.tuples }
         ensures dictionary { IfOk result (λ g. g.dictionary ≡ dictionary) }
-        ensures codes { IfOk result (λ g. g.rows.value.codes ≡ codes.now) }
-        ensures rest { IfOk result (λ g. rest_in g.rows.value ≡ rest_of codes.now dictionary.tuples) }
+        ensures codes { IfOk result (λ g. offsets_codes g ≡ codes.now) }
+        ensures rest { IfOk result (λ g. offsets_rest g ≡ rest_of codes.now dictionary.tuples) }
     {
         let tuples = dictionary.len();
         let rest = dictionary.rest().unwrap_or(tuples);
@@ -57,7 +58,7 @@ impl<N: Number> Offsets<N> {
 
     /// The tuple that no list names, if there is one.
     pub fn rest(&self) -> Option<u32>
-        ensures value { result ≡ rest_in self.now.rows.value }
+        ensures value { result ≡ offsets_rest self.now }
     {
         let rest = self.rows.rest();
         if rest < self.dictionary.len() {
@@ -69,21 +70,21 @@ impl<N: Number> Offsets<N> {
 
     /// How many rows of segment s have code k. Segment s begins with row `SEGMENT_ROWS` times s.
     pub fn count(&self, k: u32, s: u32) -> u32
-        requires tuple { k < length (⟦<Offsets<N> as Group<N>>⟧.dictionary self.now) }
-        requires listed { is_rest (rest_in self.now.rows.value) k ≡ false }
-        requires segment { s * segment_rows < length (⟦<Offsets<N> as Group<N>>⟧.codes self.now) }
-        ensures { result ≡ length (segment_offsets (⟦<Offsets<N> as Group<N>>⟧.codes self.now) k s) }
+        requires tuple { k < length (offsets_dictionary self.now) }
+        requires listed { is_rest (offsets_rest self.now) k ≡ false }
+        requires segment { s * segment_rows < length (offsets_codes self.now) }
+        ensures { result ≡ length (segment_offsets (offsets_codes self.now) k s) }
     {
         self.list(k, s).len() as u32
     }
 
     /// The n-th row of segment s that has code k, from 0, counted from the segment's first row.
     pub fn offset(&self, k: u32, s: u32, n: u32) -> u32
-        requires tuple { k < length (⟦<Offsets<N> as Group<N>>⟧.dictionary self.now) }
-        requires listed { is_rest (rest_in self.now.rows.value) k ≡ false }
-        requires segment { s * segment_rows < length (⟦<Offsets<N> as Group<N>>⟧.codes self.now) }
-        requires place { n < length (segment_offsets (⟦<Offsets<N> as Group<N>>⟧.codes self.now) k s) }
-        ensures { result ≡ code_of (segment_offsets (⟦<Offsets<N> as Group<N>>⟧.codes self.now) k s) n }
+        requires tuple { k < length (offsets_dictionary self.now) }
+        requires listed { is_rest (offsets_rest self.now) k ≡ false }
+        requires segment { s * segment_rows < length (offsets_codes self.now) }
+        requires place { n < length (segment_offsets (offsets_codes self.now) k s) }
+        ensures { result ≡ code_of (segment_offsets (offsets_codes self.now) k s) n }
     {
         u32::from(self.list(k, s)[n as usize])
     }
@@ -91,10 +92,10 @@ impl<N: Number> Offsets<N> {
     /// The rows of segment s that have code k, in rising order and counted from the segment's first row.
     /// It takes no memory.
     pub fn list(&self, k: u32, s: u32) -> &[u16]
-        requires tuple { k < length (⟦<Offsets<N> as Group<N>>⟧.dictionary self.now) }
-        requires listed { is_rest (rest_in self.now.rows.value) k ≡ false }
-        requires segment { s * segment_rows < length (⟦<Offsets<N> as Group<N>>⟧.codes self.now) }
-        ensures { result.now ≡ segment_offsets (⟦<Offsets<N> as Group<N>>⟧.codes self.now) k s }
+        requires tuple { k < length (offsets_dictionary self.now) }
+        requires listed { is_rest (offsets_rest self.now) k ≡ false }
+        requires segment { s * segment_rows < length (offsets_codes self.now) }
+        ensures { result.now ≡ segment_offsets (offsets_codes self.now) k s }
     {
         self.rows.list(k, s)
     }

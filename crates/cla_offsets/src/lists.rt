@@ -1,10 +1,11 @@
 //! Lists of offsets, segment by segment and code by code.
 
-ghost use Rattle.std.specs.Prelude.{◌≡◌, ◌≤◌, ◌<◌, ◌+◌, ◌*◌, ◌==◌, ◌++◌, ◌∷◌, ℕ, List, [], length, if◌then◌else◌, IfOk};
+ghost use Rattle.std.specs.Prelude.{◌≡◌, ◌≤◌, ◌<◌, ◌+◌, ◌*◌, ◌++◌, ℕ, List, length, IfOk};
 ghost use Rattle.cla_spec.specs.Matrix.{most_cells};
 ghost use Rattle.cla_group.specs.Groups.{code_of};
-ghost use Rattle.cla_group.specs.Grouped.{AreGrouped};
-ghost use Rattle.cla_offsets.specs.Segments.{segment_rows, segments_of, segment_of, listed, lists_to, begins_to};
+ghost use Rattle.cla_offsets.specs.Rows.{OffsetsOf};
+ghost use Rattle.cla_offsets.specs.Segments.{segment_rows, segments_of, segment_of, listed, AreLists, AreAdded};
+ghost use Rattle.cla_offsets.specs.Walks.{AreRowsByCode};
 
 use cla_group::{Grouped, group_places};
 use cla_num::Memory;
@@ -34,7 +35,7 @@ impl Lists {
         starts: usize,
         offsets: usize,
     ) -> Result<Lists, Memory>
-        ensures { IfOk result (λ lists. (lists.bases.items ≡ []) × (lists.starts.items ≡ []) × (lists.offsets.items ≡ [])) }
+        ensures { (v : OffsetsOf) → IfOk result (λ lists. AreLists 0 v lists) }
     {
         Ok(Lists {
             bases: Vec::with_capacity(alloc, segments)?,
@@ -54,9 +55,7 @@ impl Lists {
         requires below { (i : ℕ) → i < length codes.now → code_of codes.now i < tuples }
         requires rows { length codes.now ≤ segment_rows }
         requires few { length self.old.offsets.items ≤ most_cells }
-        ensures bases { IfOk result (λ _. self.new.bases.items ≡ self.old.bases.items ++ length self.old.offsets.items ∷ []) }
-        ensures starts { IfOk result (λ _. self.new.starts.items ≡ self.old.starts.items ++ begins_to (listed codes.now rest) (tuples + 1)) }
-        ensures offsets { IfOk result (λ _. self.new.offsets.items ≡ self.old.offsets.items ++ lists_to (listed codes.now rest) tuples) }
+        ensures { IfOk result (λ _. AreAdded codes.now tuples rest self.old self.new) }
     {
         let grouped = group_places(alloc, codes, tuples)?;
         let base = self.offsets.len();
@@ -83,8 +82,8 @@ impl Lists {
 
 // The rows of a code, or none where it is the rest.
 fn rows_listed(grouped: &Grouped, k: u32, rest: u32) -> &[u32]
-    requires { (count : ℕ) × (codes : List ℕ) × AreGrouped count codes grouped.now.starts.items grouped.now.places.items × (k < count) }
-    ensures { (count : ℕ) (codes : List ℕ) → AreGrouped count codes grouped.now.starts.items grouped.now.places.items → k < count → result.now ≡ listed codes rest k }
+    requires { (n : ℕ) × (codes : List ℕ) × AreRowsByCode n codes grouped.now × (k < n) }
+    ensures { (n : ℕ) (codes : List ℕ) → AreRowsByCode n codes grouped.now → k < n → result.now ≡ listed codes rest k }
 {
     if k == rest { &[] } else { grouped.places_of(k) }
 }

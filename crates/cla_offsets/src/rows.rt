@@ -1,10 +1,11 @@
 //! Rows that are kept as lists of offsets.
 
-ghost use Rattle.std.specs.Prelude.{◌≡◌, ◌≤◌, ◌<◌, ◌+◌, ◌-◌, ◌*◌, ℕ, ℤ, length, map, take, drop, IfOk};
+ghost use Rattle.std.specs.Prelude.{◌≡◌, ◌≤◌, ◌<◌, ◌-◌, ◌*◌, ℕ, ℤ, length, map, take, drop, IfOk};
 ghost use Rattle.cla_spec.specs.Matrix.{most_cells};
 ghost use Rattle.cla_num.specs.Bits.{IsSupported};
-ghost use Rattle.cla_group.specs.Groups.{at, code_of, occurrences_of, first_row_of, gathered, Scattered};
-ghost use Rattle.cla_offsets.specs.Segments.{segment_rows, segment_of, listed, list_begin};
+ghost use Rattle.cla_group.specs.Groups.{at, code_of, occurrences_of, first_row_of, Scattered};
+ghost use Rattle.cla_offsets.specs.Segments.{segment_rows, segment_of, list_of, list_begin};
+ghost use Rattle.cla_offsets.specs.Walks.{MayScatter, MayBeJoined, AreJoined, AreGathered};
 
 use crate::lists::{Lists, SEGMENT_ROWS, segment_count, segment_in};
 use crate::walks::{fill_codes, gather_codes, give_code, has_offset, join_codes, join_list, push_part};
@@ -25,15 +26,14 @@ pub struct OffsetRows {
 }
 
 impl Model for OffsetRows {
-    ghost use Rattle.std.specs.Prelude.{List, ℕ};
-    ghost use Rattle.cla_offsets.specs.Segments.{codes_of_lists, AreKept};
+    ghost use Rattle.cla_offsets.specs.Segments.{rows_kept, AreKept};
     ghost use Rattle.cla_offsets.specs.Rows.{OffsetsOf};
 
     ghost Value = { OffsetsOf };
 
-    ghost view = { λ r. record { codes = codes_of_lists r.rows r.tuples r.rest r.lists.bases.items r.lists.starts.items r.lists.offsets.items; tuples = r.tuples; rest = r.rest } };
+    ghost view = { λ r. rows_kept r.rows r.tuples r.rest r.lists };
 
-    ghost invariant = { λ r. AreKept (record { codes = codes_of_lists r.rows r.tuples r.rest r.lists.bases.items r.lists.starts.items r.lists.offsets.items; tuples = r.tuples; rest = r.rest }) r.rows r.lists.bases.items r.lists.starts.items r.lists.offsets.items r.occurrences.counts.items r.occurrences.first_rows.items };
+    ghost invariant = { λ r. AreKept (rows_kept r.rows r.tuples r.rest r.lists) r.rows r.tuples r.rest r.lists r.occurrences };
 }
 
 impl OffsetRows {
@@ -87,7 +87,7 @@ impl OffsetRows {
     pub fn list(&self, k: u32, s: u32) -> &[u16]
         requires tuple { k < self.now.tuples }
         requires segment { s * segment_rows < length self.now.codes }
-        ensures { result.now ≡ listed (segment_of self.now.codes s) self.now.rest k }
+        ensures { result.now ≡ list_of self.now s k }
     {
         &self.lists.offsets[self.begin(k, s)..self.begin(k + 1, s)]
     }
@@ -97,7 +97,7 @@ impl OffsetRows {
     fn begin(&self, k: u32, s: u32) -> usize
         requires code { k ≤ self.now.tuples }
         requires segment { s * segment_rows < length self.now.codes }
-        ensures { result ≡ list_begin self.now.codes self.now.tuples self.now.rest s k }
+        ensures { result ≡ list_begin self.now s k }
     {
         let p = s as usize * (self.tuples as usize + 1) + k as usize;
         self.lists.bases[s as usize] as usize + self.lists.starts[p] as usize
@@ -169,7 +169,7 @@ impl OffsetRows {
     pub fn join_each<J: Join>(&self, parts: &[Wide], into: &mut [Wide])
         requires tuples { length parts.now ≡ self.now.tuples }
         requires rows { length into.old ≡ length self.now.codes }
-        requires fits { (i : ℕ) → i < length into.old → J.can_join (at into.old i) (at parts.now (code_of self.now.codes i)) }
+        requires fits { MayScatter J.can_join self.now.codes parts.now into.old }
         ensures { Scattered J.join self.now.codes parts.now into.old into.new }
     {
         if self.rest < self.tuples && J::leaves_all(parts[self.rest as usize]) {
@@ -183,7 +183,7 @@ impl OffsetRows {
     fn join_listed<J: Join>(&self, parts: &[Wide], into: &mut [Wide])
         requires tuples { length parts.now ≡ self.now.tuples }
         requires rows { length into.old ≡ length self.now.codes }
-        requires fits { (i : ℕ) → i < length into.old → J.can_join (at into.old i) (at parts.now (code_of self.now.codes i)) }
+        requires fits { MayScatter J.can_join self.now.codes parts.now into.old }
         requires rest { (a : ℤ) → J.join a (at parts.now self.now.rest) ≡ a }
         ensures { Scattered J.join self.now.codes parts.now into.old into.new }
     {
@@ -197,11 +197,9 @@ impl OffsetRows {
         requires segment { s * segment_rows < length self.now.codes }
         requires tuples { length parts.now ≡ self.now.tuples }
         requires rows { length into.old ≡ length self.now.codes }
-        requires fits { (j : ℕ) → j < length (segment_of self.now.codes s) → J.can_join (at into.old (s * segment_rows + j)) (at parts.now (code_of (segment_of self.now.codes s) j)) }
+        requires fits { MayBeJoined J.can_join (s * segment_rows) (segment_of self.now.codes s) parts.now into.old }
         requires rest { (a : ℤ) → J.join a (at parts.now self.now.rest) ≡ a }
-        ensures before { (i : ℕ) → i < s * segment_rows → at into.new i ≡ at into.old i }
-        ensures joined { (j : ℕ) → j < length (segment_of self.now.codes s) → at into.new (s * segment_rows + j) ≡ J.join (at into.old (s * segment_rows + j)) (at parts.now (code_of (segment_of self.now.codes s) j)) }
-        ensures past { (i : ℕ) → s * segment_rows + length (segment_of self.now.codes s) ≤ i → at into.new i ≡ at into.old i }
+        ensures { AreJoined J.join (s * segment_rows) (segment_of self.now.codes s) parts.now into.old into.new }
     {
         let first = s as usize * SEGMENT_ROWS as usize;
         for k in 0..self.tuples {
@@ -213,7 +211,7 @@ impl OffsetRows {
     fn join_decoded<J: Join>(&self, parts: &[Wide], into: &mut [Wide])
         requires tuples { length parts.now ≡ self.now.tuples }
         requires rows { length into.old ≡ length self.now.codes }
-        requires fits { (i : ℕ) → i < length into.old → J.can_join (at into.old i) (at parts.now (code_of self.now.codes i)) }
+        requires fits { MayScatter J.can_join self.now.codes parts.now into.old }
         ensures { Scattered J.join self.now.codes parts.now into.old into.new }
     {
         let mut codes = [0; SEGMENT_ROWS as usize];
@@ -230,7 +228,7 @@ impl OffsetRows {
         requires bits { IsSupported N.BITS }
         requires rows { length rows.now ≡ length self.now.codes }
         requires tuples { length into.old ≡ self.now.tuples }
-        ensures { (k : ℕ) → k < length into.old → at into.new k ≡ gathered self.now.codes (map N.value rows.now) k }
+        ensures { AreGathered self.now.codes (map N.value rows.now) (length self.now.codes) into.new }
     {
         into.fill(Wide::zero());
         let mut codes = [0; SEGMENT_ROWS as usize];

@@ -1,11 +1,12 @@
 //! Walks over the rows of one segment.
 
-ghost use Rattle.std.specs.Prelude.{◌≡◌, ◌≤◌, ◌<◌, ◌+◌, ◌-◌, ◌*◌, ◌==◌, ◌++◌, ℕ, List, length, map, take, drop, IfOk, if◌then◌else◌};
+ghost use Rattle.std.specs.Prelude.{◌≡◌, ◌≤◌, ◌<◌, ◌+◌, ◌-◌, ◌==◌, ◌++◌, ℕ, List, length, map, take, drop, IfOk};
 ghost use Rattle.std.specs.List.{list_any};
-ghost use Rattle.std.specs.Int.RustNames.{unsigned_abs};
 ghost use Rattle.cla_spec.specs.Matrix.{most_cells};
-ghost use Rattle.cla_num.specs.Bits.{IsSupported, value_bound};
-ghost use Rattle.cla_group.specs.Groups.{at, code_of, gathered_to};
+ghost use Rattle.cla_num.specs.Bits.{IsSupported};
+ghost use Rattle.cla_group.specs.Groups.{code_of};
+ghost use Rattle.cla_offsets.specs.Walks.{code_given, IsRising, MayBeJoined, AreJoined};
+ghost use Rattle.cla_offsets.specs.Walks.{MayListBeJoined, IsListJoined, AreCodesFrom, AreGathered, AreGatheredBefore};
 
 use cla_group::Join;
 use cla_num::{Memory, Number, Wide};
@@ -22,7 +23,7 @@ pub(crate) fn fill_codes(code: u32, codes: &mut [u32])
 // Gives these places a code.
 pub(crate) fn give_code(code: u32, places: &[u16], codes: &mut [u32])
     requires within { (n : ℕ) → n < length places.now → code_of places.now n < length codes.old }
-    ensures { (j : ℕ) → j < length codes.old → code_of codes.new j ≡ (if list_any (λ place. place == j) places.now then code else code_of codes.old j) }
+    ensures { (j : ℕ) → j < length codes.old → code_of codes.new j ≡ code_given code places.now codes.old j }
 {
     for place in places {
         codes[*place as usize] = code;
@@ -46,7 +47,7 @@ pub(crate) fn push_part(
 
 // Whether this offset is listed.
 pub(crate) fn has_offset(list: &[u16], offset: u16) -> bool
-    requires rising { (m n : ℕ) → m < n → n < length list.now → code_of list.now m < code_of list.now n }
+    requires rising { IsRising list.now }
     ensures { result ≡ list_any (λ o. o == offset) list.now }
 {
     list.binary_search(&offset).is_ok()
@@ -56,10 +57,8 @@ pub(crate) fn has_offset(list: &[u16], offset: u16) -> bool
 pub(crate) fn join_codes<J: Join>(codes: &[u32], first: usize, parts: &[Wide], into: &mut [Wide])
     requires within { first + length codes.now ≤ length into.old }
     requires tuples { (j : ℕ) → j < length codes.now → code_of codes.now j < length parts.now }
-    requires fits { (j : ℕ) → j < length codes.now → J.can_join (at into.old (first + j)) (at parts.now (code_of codes.now j)) }
-    ensures before { (i : ℕ) → i < first → at into.new i ≡ at into.old i }
-    ensures joined { (j : ℕ) → j < length codes.now → at into.new (first + j) ≡ J.join (at into.old (first + j)) (at parts.now (code_of codes.now j)) }
-    ensures past { (i : ℕ) → first + length codes.now ≤ i → at into.new i ≡ at into.old i }
+    requires fits { MayBeJoined J.can_join first codes.now parts.now into.old }
+    ensures { AreJoined J.join first codes.now parts.now into.old into.new }
 {
     for j in 0..codes.len() {
         into[first + j] = J::joined(into[first + j], parts[codes[j] as usize]);
@@ -70,10 +69,9 @@ pub(crate) fn join_codes<J: Join>(codes: &[u32], first: usize, parts: &[Wide], i
 // all as it is is passed over.
 pub(crate) fn join_list<J: Join>(part: Wide, offsets: &[u16], first: usize, into: &mut [Wide])
     requires within { (n : ℕ) → n < length offsets.now → first + code_of offsets.now n < length into.old }
-    requires rising { (m n : ℕ) → m < n → n < length offsets.now → code_of offsets.now m < code_of offsets.now n }
-    requires fits { (n : ℕ) → n < length offsets.now → J.can_join (at into.old (first + code_of offsets.now n)) part }
-    ensures joined { (n : ℕ) → n < length offsets.now → at into.new (first + code_of offsets.now n) ≡ J.join (at into.old (first + code_of offsets.now n)) part }
-    ensures others { (i : ℕ) → ((n : ℕ) → n < length offsets.now → first + code_of offsets.now n ≡ i → ⊥) → at into.new i ≡ at into.old i }
+    requires rising { IsRising offsets.now }
+    requires fits { MayListBeJoined J.can_join first offsets.now part into.old }
+    ensures { IsListJoined J.join first offsets.now part into.old into.new }
 {
     if J::leaves_all(part) {
         return;
@@ -90,8 +88,9 @@ pub(crate) fn gather_codes<N: Number>(codes: &[u32], first: usize, rows: &[N], i
     requires few { length rows.now ≤ most_cells }
     requires within { first + length codes.now ≤ length rows.now }
     requires tuples { (j : ℕ) → j < length codes.now → code_of codes.now j < length into.old }
-    requires so_far { (all : List ℕ) × ((j : ℕ) → j < length codes.now → code_of all (first + j) ≡ code_of codes.now j) × ((k : ℕ) → k < length into.old → at into.old k ≡ gathered_to all (map N.value rows.now) k first) }
-    ensures { (all : List ℕ) → ((j : ℕ) → j < length codes.now → code_of all (first + j) ≡ code_of codes.now j) → ((k : ℕ) → k < length into.old → at into.old k ≡ gathered_to all (map N.value rows.now) k first) → (k : ℕ) → k < length into.new → at into.new k ≡ gathered_to all (map N.value rows.now) k (first + length codes.now) }
+    requires so_far { AreGatheredBefore first codes.now (map N.value rows.now) into.old }
+    ensures { (all : List ℕ) → let items = map N.value rows.now in AreCodesFrom first codes.now all →
+        AreGathered all items first into.old → AreGathered all items (first + length codes.now) into.new }
 {
     for j in 0..codes.len() {
         let k = codes[j] as usize;

@@ -1,12 +1,12 @@
 -- What is known of rows by their runs.
-use Rattle.std.proofs.Common.{◌≡◌, ℕ, zero, suc, ◌+◌, ◌-◌, ◌<◌, ◌≤◌, Bool, cond, List, length, ltb, ap, sym, ◌∙◌, arith, inl, inr}
+use Rattle.std.proofs.Common.{◌≡◌, ℕ, zero, suc, ◌+◌, ◌-◌, ◌*◌, ◌/◌, ◌%◌, ◌<◌, ◌≤◌, Bool, cond, List, length, ltb, refl, ap, sym, ◌∙◌, arith, inl, inr}
 use Rattle.std.specs.List.{position_or_len}
-use Rattle.std.proofs.lemmas.Bool.{cases_lt, lt-ltb, le-ltb, le-leb, lt-leb, ltb-true, ltb-false}
+use Rattle.std.proofs.lemmas.Bool.{cases_eq, cases_lt, eq-eqb, ne_eqb, lt-ltb, le-ltb, le-leb, lt-leb, ltb-true, ltb-false}
 use Rattle.std.proofs.lemmas.List.{ext_get_or}
 use Rattle.std.proofs.lemmas.List.FromFn.{length-map-range_with_len, get_or-map-range_with_len}
 use Rattle.std.proofs.lemmas.List.Sums.{position_or_len_is, fails_before_first, passes_at_first}
 use Rattle.cla_group.specs.Groups.{code_of}
-use Rattle.cla_runs.specs.RunBounds.{IsStretch, AreRuns, ended_by, code_in_runs, codes_in_runs}
+use Rattle.cla_runs.specs.RunBounds.{IsStretch, AreRuns, edge, stretch_code, ended_by, code_in_runs, codes_in_runs}
 
 -- where row i stands by the runs: run n hasn't ended by it, but all before have
 pub record IsAtRun (ends : List ℕ) (runs i n : ℕ) : Type 0 where
@@ -54,19 +54,44 @@ module _ {rows : ℕ} {codes : List ℕ} {rest : ℕ} {begins ends keys : List �
     | inr past ↦ (let e : n ≡ length keys = omega (arith, past, there) in absurd (omega (arith, before, within, are.last, ap (code_of begins) e)))
   ]
 
-  pub gap_stretch : rows ≤ length codes → (n : ℕ) → n ≤ length keys → IsStretch codes rest (code_of ends n) (code_of begins n)
-  gap_stretch few n there = record {
-    order = are.rising n there;
-    within = omega (arith, few, begin_within n there);
-    same = λ i from before. are.in_gap n i there from before;
-  }
-
+  -- run n, and all stretches of rows
   pub run_stretch : rows ≤ length codes → (n : ℕ) → n < length keys → IsStretch codes (code_of keys n) (code_of begins n) (code_of ends (n + 1))
   run_stretch few n there = record {
     order = omega (arith, are.not_empty n there);
     within = omega (arith, few, end_within (n + 1) (omega (arith, there)));
     same = λ i from before. are.in_run n i there from before;
   }
+
+  pub stretch_is : rows ≤ length codes → (s : ℕ) → s < 2 * length keys + 1 → IsStretch codes (stretch_code rest keys s) (edge begins ends s) (edge begins ends (s + 1))
+  stretch_is few s there =
+      let n = s / 2 in
+      elim (cases_eq (s % 2) 0) [
+        | inl even ↦
+            let gap : n ≤ length keys = omega (arith, there, even) in
+            let next : (s + 1) / 2 ≡ n = omega (arith, even) in
+            rw (eq-eqb (s % 2) 0 even, ne_eqb ((s + 1) % 2) 0 (λ e. omega (arith, e, even)), next)
+            (record { order = are.rising n gap; within = omega (arith, few, begin_within n gap); same = λ i from before. are.in_gap n i gap from before })
+        | inr odd ↦
+            let next : (s + 1) / 2 ≡ n + 1 = omega (arith, odd) in
+            rw (ne_eqb (s % 2) 0 odd, eq-eqb ((s + 1) % 2) 0 (omega (arith, odd)), next) (run_stretch few n (omega (arith, there, odd)))
+      ]
+
+  -- the first stretch begins at row 0, and the last ends with the rows
+  pub edge_last : edge begins ends (2 * length keys + 1) ≡ rows
+  edge_last =
+      let m = length keys in
+      let half : (2 * m + 1) / 2 ≡ m = omega arith in
+      rw (ne_eqb ((2 * m + 1) % 2) 0 (λ e. omega (arith, e)), half) are.last
+
+  pub edge_even : (n : ℕ) → edge begins ends (2 * n) ≡ code_of ends n
+  edge_even n = let half : 2 * n / 2 ≡ n = omega arith in rw (eq-eqb (2 * n % 2) 0 (omega arith), half) refl
+
+  -- a stretch begins before row b, if it is none past the last
+  pub stretch_there : (s b : ℕ) → s ≤ 2 * length keys + 1 → edge begins ends s < b → b ≤ rows → s < 2 * length keys + 1
+  stretch_there s b there before within = elim (cases_lt s (2 * length keys + 1)) [
+    | inl below ↦ below
+    | inr past ↦ (let e : s ≡ 2 * length keys + 1 = omega (arith, past, there) in absurd (omega (arith, before, within, edge_last, ap (edge begins ends) e)))
+  ]
 
   -- what holds of all codes holds of the keys
   pub key_below : {tuples : ℕ} → rows ≤ length codes → ((i : ℕ) → i < length codes → code_of codes i < tuples) → (n : ℕ) → n < length keys → code_of keys n < tuples

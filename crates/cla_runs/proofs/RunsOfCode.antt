@@ -1,13 +1,13 @@
 -- The runs of one code, among all runs.
 use Rattle.std.proofs.Common.{◌≡◌, true, false, Bool, ℕ, zero, suc, ◌+◌, ◌-◌, ◌<◌, ◌≤◌, List, [], ◌∷◌, ◌++◌, length, map, cond, eqb, refl, subst, ap, sym, ◌∙◌, arith, inl, inr}
-use Rattle.std.specs.Prelude.{not, ◌||◌}
+use Rattle.std.specs.Prelude.{not, ◌&&◌, ◌||◌}
 use Rattle.std.proofs.lemmas.Bool.{cases_eq, cases_lt, eqb-true, eq-eqb, ne_eqb, and_from, and_left, and_right, or_left, or_right}
-use Rattle.std.proofs.lemmas.List.{map-append, append-nil, length-map, get_or-map, length_push}
+use Rattle.std.proofs.lemmas.List.{ext_get_or, map-append, append-nil, length-map, get_or-map, length_push}
 use Rattle.cla_group.specs.Groups.{code_of}
 use Rattle.cla_group.specs.Listed.{rows_where, rows_of, begins_run, run_begins}
 use Rattle.cla_group.proofs.Listings.{rows_where_more, rows_where_yes, rows_where_no, row_place, rows_where_from, rows_where_none, are_rows_where}
 use Rattle.cla_runs.specs.RunBounds.{AreRuns}
-use Rattle.cla_runs.specs.CodeRuns.{IsMaximalRun, IsRun}
+use Rattle.cla_runs.specs.CodeRuns.{IsMaximalRun, IsRun, listed_begins, listed_keys, AreRunsByKey}
 use Rattle.cla_runs.proofs.RunBounds.{ends_rise, run_stretch}
 
 -- no more rows pass up to b where none does from a on
@@ -63,6 +63,32 @@ pub number_is : {m : ℕ} {keys : List ℕ} {k count : ℕ} → AreCountedTo m k
 number_is {m} {keys} {k} so_far there here =
     ap (code_of (rows_of keys k)) so_far.is ∙ (row_place (λ i. eqb (code_of keys i) k) (length keys) m there (eq-eqb (code_of keys m) k here)).1
 
+-- rows that pass a test which only first rows of runs do
+module _ {codes : List ℕ} {rest : ℕ} {begins ends keys : List ℕ} (are : AreRuns (length codes) codes rest begins ends keys) (test pick : ℕ → Bool)
+    (gap : (n i : ℕ) → n ≤ length keys → code_of ends n ≤ i → i < code_of begins n → test i ≡ false)
+    (here : (n : ℕ) → n < length keys → test (code_of begins n) ≡ pick n)
+    (later : (n i : ℕ) → n < length keys → code_of begins n + 1 ≤ i → i < code_of ends (n + 1) → test i ≡ false) where
+  gap_still : (n : ℕ) → n ≤ length keys → rows_where test (code_of begins n) ≡ rows_where test (code_of ends n)
+  gap_still n there = rows_where_still test (code_of ends n) (code_of begins n) (are.rising n there) (λ i from to. gap n i there from to)
+
+  marked_to : (n : ℕ) → n ≤ length keys → rows_where test (code_of ends n) ≡ map (code_of begins) (rows_where pick n)
+  marked_to zero within = ap (rows_where test) are.first
+  marked_to (suc n) within =
+      let next : n + 1 ≡ suc n = omega arith in
+      let there : n < length keys = omega (arith, within) in
+      let b = code_of begins n in
+      subst (λ (m : ℕ). rows_where test (code_of ends m) ≡ map (code_of begins) (rows_where pick m)) next (
+      rows_where_still test (b + 1) (code_of ends (n + 1)) (omega (arith, are.not_empty n there)) (λ i after before. later n i there after before)
+      ∙ rows_where_more test b
+      ∙ ap (λ (t : Bool). rows_where test b ++ cond t (b ∷ []) []) (here n there)
+      ∙ ap (λ (xs : List ℕ). xs ++ cond (pick n) (b ∷ []) []) (gap_still n (omega (arith, there)) ∙ marked_to n (omega (arith, there)))
+      ∙ ap (λ (xs : List ℕ). map (code_of begins) (rows_where pick n) ++ xs) (sym (mapped_if (code_of begins) (pick n) n))
+      ∙ sym (map-append (code_of begins) (rows_where pick n) (cond (pick n) (n ∷ []) []))
+      ∙ ap (map (code_of begins)) (sym (rows_where_more pick n)))
+
+  marked_all : rows_where test (length codes) ≡ map (code_of begins) (rows_where pick (length keys))
+  marked_all = ap (rows_where test) (sym are.last) ∙ gap_still (length keys) (omega arith) ∙ marked_to (length keys) (omega arith)
+
 module _ {codes : List ℕ} {rest : ℕ} {begins ends keys : List ℕ} (are : AreRuns (length codes) codes rest begins ends keys) (k : ℕ) (listed : k ≡ rest → ⊥) where
   -- a run of its code begins with a run, and nowhere else
   begins_here : (n : ℕ) → n < length keys → begins_run codes k (code_of begins n) ≡ eqb (code_of keys n) k
@@ -95,30 +121,12 @@ module _ {codes : List ℕ} {rest : ℕ} {begins ends keys : List ℕ} (are : Ar
         | inl is ↦ begins_later codes k i (omega (arith, after)) (above ∙ is)
       ]
 
-  gap_still : (n : ℕ) → n ≤ length keys → rows_where (begins_run codes k) (code_of begins n) ≡ rows_where (begins_run codes k) (code_of ends n)
-  gap_still n there =
-      rows_where_still (begins_run codes k) (code_of ends n) (code_of begins n) (are.rising n there)
-      (λ i from to. begins_other codes k i (λ is. listed (sym is ∙ are.in_gap n i there from to)))
-
-  begins_to : (n : ℕ) → n ≤ length keys → rows_where (begins_run codes k) (code_of ends n) ≡ map (code_of begins) (rows_where (λ m. eqb (code_of keys m) k) n)
-  begins_to zero within = ap (rows_where (begins_run codes k)) are.first
-  begins_to (suc n) within =
-      let next : n + 1 ≡ suc n = omega arith in
-      let there : n < length keys = omega (arith, within) in
-      let test = λ (m : ℕ). eqb (code_of keys m) k in
-      let b = code_of begins n in
-      subst (λ (m : ℕ). rows_where (begins_run codes k) (code_of ends m) ≡ map (code_of begins) (rows_where (λ m. eqb (code_of keys m) k) m)) next (
-      rows_where_still (begins_run codes k) (b + 1) (code_of ends (n + 1)) (omega (arith, are.not_empty n there)) (λ i after before. begins_not n i there after before)
-      ∙ rows_where_more (begins_run codes k) b
-      ∙ ap (λ (t : Bool). rows_where (begins_run codes k) b ++ cond t (b ∷ []) []) (begins_here n there)
-      ∙ ap (λ (xs : List ℕ). xs ++ cond (test n) (b ∷ []) []) (gap_still n (omega (arith, there)) ∙ begins_to n (omega (arith, there)))
-      ∙ ap (λ (xs : List ℕ). map (code_of begins) (rows_where test n) ++ xs) (sym (mapped_if (code_of begins) (test n) n))
-      ∙ sym (map-append (code_of begins) (rows_where test n) (cond (test n) (n ∷ []) []))
-      ∙ ap (map (code_of begins)) (sym (rows_where_more test n)))
+  gap_not : (n i : ℕ) → n ≤ length keys → code_of ends n ≤ i → i < code_of begins n → begins_run codes k i ≡ false
+  gap_not n i there from to = begins_other codes k i (λ is. listed (sym is ∙ are.in_gap n i there from to))
 
   -- the runs of a code begin where the runs with its key do
   pub begins_are : run_begins codes k ≡ map (code_of begins) (rows_of keys k)
-  begins_are = ap (rows_where (begins_run codes k)) (sym are.last) ∙ gap_still (length keys) (omega arith) ∙ begins_to (length keys) (omega arith)
+  begins_are = marked_all are (begins_run codes k) (λ m. eqb (code_of keys m) k) gap_not begins_here begins_not
 
   pub begins_count : length (run_begins codes k) ≡ length (rows_of keys k)
   begins_count = ap (λ (xs : List ℕ). length xs) begins_are ∙ length-map (rows_of keys k) (code_of begins)
@@ -184,3 +192,55 @@ module _ {codes : List ℕ} {rest : ℕ} {begins ends keys : List ℕ} (are : Ar
         });
         run = rw (begin, on) (maximal (code_of (rows_of keys k) n) number.0 number.1);
       }
+
+-- the rows that pass where all do
+all_count : (n : ℕ) → length (rows_where (λ _. true) n) ≡ n
+all_count zero = refl
+all_count (suc n) =
+    let next : suc n ≡ n + 1 = omega arith in
+    ap (λ (m : ℕ). length (rows_where (λ _. true) m)) next ∙ omega (arith, ap (λ (xs : List ℕ). length xs) (rows_where_yes (λ _. true) n refl), length_push (rows_where (λ _. true) n) n, all_count n)
+
+all_item : (n i : ℕ) → i < n → code_of (rows_where (λ _. true) n) i ≡ i
+all_item n i row = ap (code_of (rows_where (λ _. true) n)) (sym (all_count i)) ∙ (row_place (λ _. true) n i row refl).1
+
+-- all runs, whichever code they have
+module _ {codes : List ℕ} {rest : ℕ} {begins ends keys : List ℕ} (are : AreRuns (length codes) codes rest begins ends keys) where
+  pub key_is : (n : ℕ) → n < length keys → code_of codes (code_of begins n) ≡ code_of keys n
+  key_is n there = are.in_run n (code_of begins n) there (omega arith) (are.not_empty n there)
+
+  listed_are : listed_begins codes rest ≡ map (code_of begins) (rows_where (λ _. true) (length keys))
+  listed_are = marked_all are (λ i. not (eqb (code_of codes i) rest) && begins_run codes (code_of codes i) i) (λ _. true)
+      (λ n i there from to. and_left _ _ (ap not (eq-eqb (code_of codes i) rest (are.in_gap n i there from to))))
+      (λ n there. (let k = code_of codes (code_of begins n) in
+      let listed = λ (is : k ≡ rest). are.listed n there (sym (key_is n there) ∙ is) in
+      and_from _ _ (ap not (ne_eqb k rest listed)) (begins_here are k listed n there ∙ eq-eqb (code_of keys n) k (sym (key_is n there)))))
+      (λ n i there after before. (let k = code_of codes i in
+      let same : k ≡ code_of keys n = are.in_run n i there (omega (arith, after)) before in
+      let listed = λ (is : k ≡ rest). are.listed n there (sym same ∙ is) in
+      and_right _ _ (begins_not are k listed n i there after before)))
+
+  pub listed_count : length (listed_begins codes rest) ≡ length keys
+  listed_count = ap (λ (xs : List ℕ). length xs) listed_are ∙ length-map (rows_where (λ _. true) (length keys)) (code_of begins) ∙ all_count (length keys)
+
+  pub listed_begin : (n : ℕ) → n < length keys → code_of (listed_begins codes rest) n ≡ code_of begins n
+  listed_begin n there =
+      ap (λ (xs : List ℕ). code_of xs n) listed_are ∙ get_or-map (code_of begins) (rows_where (λ _. true) (length keys)) n 0 0 (omega (arith, all_count (length keys), there))
+      ∙ ap (code_of begins) (all_item (length keys) n there)
+
+  pub listed_keys_are : listed_keys codes rest ≡ keys
+  listed_keys_are =
+      let size : length (listed_keys codes rest) ≡ length keys = length-map (listed_begins codes rest) (code_of codes) ∙ listed_count in
+      ext_get_or 0 (listed_keys codes rest) keys size (λ n lt. (let there : n < length keys = omega (arith, lt, size) in
+      get_or-map (code_of codes) (listed_begins codes rest) n 0 0 (omega (arith, there, listed_count)) ∙ ap (code_of codes) (listed_begin n there) ∙ key_is n there))
+
+  pub runs_by_key : AreRunsByKey codes rest
+  runs_by_key k listed =
+      let numbers = rows_of keys k in
+      let rows = are_rows_where (λ (i : ℕ). eqb (code_of keys i) k) (length keys) in
+      let same : map (code_of begins) numbers ≡ map (code_of (listed_begins codes rest)) numbers =
+      ext_get_or 0 (map (code_of begins) numbers) (map (code_of (listed_begins codes rest)) numbers)
+      (length-map numbers (code_of begins) ∙ sym (length-map numbers (code_of (listed_begins codes rest))))
+      (λ n lt. (let there : n < length numbers = omega (arith, lt, length-map numbers (code_of begins)) in
+      get_or-map (code_of begins) numbers n 0 0 there ∙ sym (listed_begin (code_of numbers n) (rows.below n there))
+      ∙ sym (get_or-map (code_of (listed_begins codes rest)) numbers n 0 0 there))) in
+      begins_are are k listed ∙ same ∙ ap (λ (ks : List ℕ). map (code_of (listed_begins codes rest)) (rows_of ks k)) (sym listed_keys_are)

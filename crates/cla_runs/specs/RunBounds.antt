@@ -1,7 +1,7 @@
 -- Rows that are kept as runs (PVLDB 9(12), run-length encoding). One code, the rest, has no runs; the maximal runs of all
 -- others stand in the order of rows. Run n goes from begin n to before end n + 1, and has key n. The rows before it, from
 -- end n to before begin n, have the rest; so end 0 is row 0, and the last begin is where the rows end.
-use Rattle.std.specs.Prelude.{◌≡◌, ℕ, ◌+◌, ◌-◌, ◌<◌, ◌≤◌, List, length, map, nat_lt, nat_le, if◌then◌else◌}
+use Rattle.std.specs.Prelude.{◌≡◌, ℕ, ◌+◌, ◌-◌, ◌/◌, ◌%◌, ◌==◌, ◌<◌, ◌≤◌, List, length, map, nat_lt, nat_le, if◌then◌else◌}
 use Rattle.std.specs.List.{range_with_len, position_or_len}
 use Rattle.cla_group.specs.Groups.{code_of}
 
@@ -41,3 +41,11 @@ code_in_runs rest begins ends keys i = let n = ended_by ends i in if nat_le (cod
 -- the codes of rows, by their runs
 unfoldable pub codes_in_runs : ℕ → List ℕ → List ℕ → List ℕ → List ℕ
 codes_in_runs rest begins ends keys = map (code_in_runs rest begins ends keys) (range_with_len 0 (code_of begins (length keys)))
+
+-- All rows, stretch by stretch: stretch 2 n is before run n, and has the rest, and stretch 2 n + 1 is run n. Where each
+-- begins, and its code.
+abbrev pub edge : List ℕ → List ℕ → ℕ → ℕ
+edge begins ends s = if s % 2 == 0 then code_of ends (s / 2) else code_of begins (s / 2)
+
+abbrev pub stretch_code : ℕ → List ℕ → ℕ → ℕ
+stretch_code rest keys s = if s % 2 == 0 then rest else code_of keys (s / 2)

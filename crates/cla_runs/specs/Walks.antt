@@ -13,15 +13,14 @@ abbrev pub JoinsOn : (ℤ → ℤ → ℤ) → ℤ → ℕ → ℕ → List ℤ 
 JoinsOn join part a b before after = (codes : List ℕ) (k : ℕ) (parts old : List ℤ) → IsStretch codes k a b → part ≡ at parts k →
     AreJoinedTo a join codes parts old before → AreJoinedTo b join codes parts old after
 
--- to the sum of the items of a code, those of the rows from row a to before row b are added, if they have the code
-abbrev pub GathersOn : List ℤ → ℕ → ℕ → ℤ → ℤ → Type 0
-GathersOn items a b before after = (codes : List ℕ) (k : ℕ) → IsStretch codes k a b → before ≡ gathered_to codes items k a → after ≡ gathered_to codes items k b
+-- the items of each code are added up
+pub record AreGatheredTo (to : ℕ) (codes : List ℕ) (items sums : List ℤ) : Type 0 where
+  pub sum : (k : ℕ) → k < length sums → at sums k ≡ gathered_to codes items k to
 
--- the items of each code but the rest are added up
-pub record AreGatheredTo (to : ℕ) (codes : List ℕ) (rest : ℕ) (items sums : List ℤ) : Type 0 where
-  pub sum : (k : ℕ) → k < length sums → (k ≡ rest → ⊥) → at sums k ≡ gathered_to codes items k to
+-- the rows from row a to before row b, which have code k, are gathered, whatever has come of those before
+abbrev pub GathersOn : List ℤ → ℕ → ℕ → ℕ → List ℤ → List ℤ → Type 0
+GathersOn items k a b before after = (codes : List ℕ) → IsStretch codes k a b → AreGatheredTo a codes items before → AreGatheredTo b codes items after
 
--- of the rows from row a on, those before row `to` have their codes, and the others the rest
-pub record AreCodedTo (to : ℕ) (codes : List ℕ) (rest a : ℕ) (made : List ℕ) : Type 0 where
+-- of the rows from row a on, each has its code
+pub record AreCodedTo (to : ℕ) (codes : List ℕ) (a : ℕ) (made : List ℕ) : Type 0 where
   pub done : (j : ℕ) → j < length made → a + j < to → code_of made j ≡ code_of codes (a + j)
-  pub left : (j : ℕ) → j < length made → to ≤ a + j → code_of made j ≡ rest

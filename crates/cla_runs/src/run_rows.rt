@@ -5,11 +5,12 @@ ghost use Rattle.cla_spec.specs.Matrix.{most_cells};
 ghost use Rattle.cla_num.specs.Bits.{IsSupported};
 ghost use Rattle.cla_group.specs.Groups.{at, code_of, occurrences_of, first_row_of, gathered, Scattered};
 ghost use Rattle.cla_group.specs.Listed.{run_begins};
-ghost use Rattle.cla_runs.specs.CodeRuns.{IsRun};
+ghost use Rattle.cla_group.specs.Grouped.{AreGrouped};
+ghost use Rattle.cla_runs.specs.CodeRuns.{IsRun, IsListedRun, listed_begins, listed_keys, AreRunsByKey};
 
 use crate::run_list::{RunList, list_runs};
 use crate::walks::{gather_between, give_code, join_between, part_of};
-use cla_group::{Join, Occurrences, counted};
+use cla_group::{Grouped, Join, Occurrences, counted, group_places};
 use cla_num::{Memory, Number, Wide};
 use std::alloc::Global;
 use std::marker::Model;
@@ -31,6 +32,7 @@ pub struct Run {
 /// It keeps 12 bytes a run and 8 a code.
 #[derive(Drop)]
 pub struct RunRows {
+    tuples: u32,
     rest: u32,
     runs: RunList,
     occurrences: Occurrences,
@@ -41,9 +43,9 @@ impl Model for RunRows {
 
     ghost Value = { RowsOf };
 
-    ghost view = { λ r. rows_in_runs r.rest r.runs.begins.items r.runs.ends.items r.runs.keys.items r.occurrences.counts.items };
+    ghost view = { λ r. rows_in_runs r.tuples r.rest r.runs };
 
-    ghost invariant = { λ r. AreKept (rows_in_runs r.rest r.runs.begins.items r.runs.ends.items r.runs.keys.items r.occurrences.counts.items) r.runs.begins.items r.runs.ends.items r.runs.keys.items r.occurrences.counts.items r.occurrences.first_rows.items };
+    ghost invariant = { λ r. AreKept (rows_in_runs r.tuples r.rest r.runs) r.runs r.occurrences };
 }
 
 impl RunRows {
@@ -61,6 +63,7 @@ impl RunRows {
         let runs = list_runs(alloc, codes, rest)?;
         let occurrences = counted(alloc, codes, tuples)?;
         Ok(RunRows {
+            tuples,
             rest,
             runs,
             occurrences,
@@ -117,15 +120,10 @@ impl RunRows {
         requires fits { (i : ℕ) → i < length into.old → J.can_join (at into.old i) (at parts.now (code_of self.now.codes i)) }
         ensures { Scattered J.join self.now.codes parts.now into.old into.new }
     {
-        let rest = part_of(parts, self.rest());
-        for n in 0..self.runs.len() {
-            let begin = self.runs.begin(n);
-            join_between::<J>(rest, self.runs.end_before(n), begin, into);
-            let part = part_of(parts, self.runs.key(n));
-            join_between::<J>(part, begin, self.runs.end_before(n + 1), into);
+        for s in 0..2 * self.runs.len() + 1 {
+            let part = part_of(parts, self.runs.code(s, self.rest()));
+            join_between::<J>(part, self.runs.edge(s), self.runs.edge(s + 1), into);
         }
-        let last = self.runs.end_before(self.runs.len());
-        join_between::<J>(rest, last, self.len(), into);
     }
 
     /// The sum of the items of each code, in one pass over the rows.
@@ -136,18 +134,9 @@ impl RunRows {
         ensures { (k : ℕ) → k < length into.old → at into.new k ≡ gathered self.now.codes (map N.value rows.now) k }
     {
         into.fill(Wide::zero());
-        let mut rest = Wide::zero();
-        for n in 0..self.runs.len() {
-            let begin = self.runs.begin(n);
-            rest = gather_between(rows, self.runs.end_before(n), begin, rest);
-            let k = self.runs.key(n) as usize;
-            into[k] = gather_between(rows, begin, self.runs.end_before(n + 1), into[k]);
-        }
-        let last = self.runs.end_before(self.runs.len());
-        rest = gather_between(rows, last, self.len(), rest);
-        let k = self.rest() as usize;
-        if k < into.len() {
-            into[k] = rest;
+        for s in 0..2 * self.runs.len() + 1 {
+            let k = self.runs.code(s, self.rest());
+            gather_between(rows, k, self.runs.edge(s), self.runs.edge(s + 1), into);
         }
     }
 
@@ -156,14 +145,13 @@ impl RunRows {
         requires { a + length into.old ≤ length self.now.codes }
         ensures { into.new ≡ take (length into.old) (drop a self.now.codes) }
     {
-        let mut n = self.runs.ended_by(a);
+        let mut s = 2 * self.runs.ended_by(a);
         let b = a + into.len() as u32;
-        give_code(self.rest(), 0, b - a, into);
-        while self.runs.begin(n) < b {
-            let begin = self.runs.begin(n).max(a);
-            let end = self.runs.end_before(n + 1).min(b);
-            give_code(self.runs.key(n), begin - a, end - a, into);
-            n += 1;
+        while self.runs.edge(s) < b {
+            let begin = self.runs.edge(s).max(a);
+            let end = self.runs.edge(s + 1).min(b).max(begin);
+            give_code(self.runs.code(s, self.rest()), begin - a, end - a, into);
+            s += 1;
         }
     }
 
@@ -198,5 +186,30 @@ impl RunRows {
             gap: begin - self.runs.previous_end(k, n),
             length: self.runs.end_before(number + 1) - begin,
         }
+    }
+
+    /// The numbers of the runs, grouped by code: the runs of all codes but the rest are numbered in the order of
+    /// rows. It is for whoever wants all of them, and costs two passes over them.
+    pub fn numbers(&self, alloc: Global) -> Result<Grouped, Memory>
+        ensures grouped { IfOk result (λ g. AreGrouped self.now.tuples (listed_keys self.now.codes self.now.rest) g.starts.items g.places.items) }
+        ensures runs { IfOk result (λ _. AreRunsByKey self.now.codes self.now.rest) }
+    {
+        Ok(group_places(alloc, &self.runs.keys, self.tuples)?)
+    }
+
+    /// The first row of the run with this number.
+    pub fn begin(&self, number: u32) -> u32
+        requires { number < length (listed_begins self.now.codes self.now.rest) }
+        ensures { result ≡ code_of (listed_begins self.now.codes self.now.rest) number }
+    {
+        self.runs.begin(number as usize)
+    }
+
+    /// The row after the run with this number.
+    pub fn end(&self, number: u32) -> u32
+        requires { number < length (listed_begins self.now.codes self.now.rest) }
+        ensures { IsListedRun self.now.codes self.now.rest number result }
+    {
+        self.runs.end_before(number as usize + 1)
     }
 }

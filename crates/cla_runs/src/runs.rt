@@ -79,6 +79,13 @@ impl<N: Number> Runs<N> {
         }
     }
 
+    /// The rows as they are kept, for whoever wants all runs.
+    pub fn run_rows(&self) -> &RunRows
+        ensures { result.now ≡ self.now.rows.value }
+    {
+        &self.rows
+    }
+
     /// How many maximal runs code k has, by a pass over the runs of all.
     pub fn run_count(&self, k: u32) -> u32
         requires tuple { k < length (⟦<Runs<N> as Group<N>>⟧.dictionary self.now) }

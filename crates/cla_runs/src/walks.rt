@@ -3,8 +3,8 @@
 ghost use Rattle.std.specs.Prelude.{◌≡◌, ◌≤◌, ◌<◌, ◌+◌, ℕ, List, length, map};
 ghost use Rattle.cla_spec.specs.Matrix.{most_cells};
 ghost use Rattle.cla_num.specs.Bits.{IsSupported};
-ghost use Rattle.cla_group.specs.Groups.{at, code_of, gathered_to};
-ghost use Rattle.cla_runs.specs.Walks.{JoinsOn, GathersOn};
+ghost use Rattle.cla_group.specs.Groups.{at, code_of};
+ghost use Rattle.cla_runs.specs.Walks.{JoinsOn, AreGatheredTo, GathersOn};
 
 use cla_group::Join;
 use cla_num::{Number, Wide};
@@ -34,20 +34,23 @@ pub(crate) fn join_between<J: Join>(part: Wide, a: u32, b: u32, into: &mut [Wide
     }
 }
 
-// The sum of a code's items before row a, with those of the rows from row a to before row b.
-pub(crate) fn gather_between<N: Number>(rows: &[N], a: u32, b: u32, sum: Wide) -> Wide
+// Adds the items of the rows from row a to before row b to place k.
+pub(crate) fn gather_between<N: Number>(rows: &[N], k: u32, a: u32, b: u32, into: &mut [Wide])
     requires bits { IsSupported N.BITS }
     requires few { length rows.now ≤ most_cells }
-    requires order { a ≤ b }
     requires within { b ≤ length rows.now }
-    requires sum { (codes : List ℕ) × (k : ℕ) × (sum ≡ gathered_to codes (map N.value rows.now) k a) }
-    ensures { GathersOn (map N.value rows.now) a b sum result }
+    requires place { a < b → k < length into.old }
+    requires sums { (codes : List ℕ) × AreGatheredTo a codes (map N.value rows.now) into.old }
+    ensures { GathersOn (map N.value rows.now) k a b into.old into.new }
 {
-    let mut total = sum;
+    if a >= b {
+        return;
+    }
+    let mut total = into[k as usize];
     for i in a as usize..b as usize {
         total = total.plus(rows[i].wide());
     }
-    total
+    into[k as usize] = total;
 }
 
 // Gives a code to the rows from row a to before row b.

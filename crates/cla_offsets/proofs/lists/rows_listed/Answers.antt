@@ -4,5 +4,6 @@ use Rattle.cla_group.specs.Listed.{rows_of}
 use Rattle.cla_offsets.proofs.lists.rows_listed.Goals as goal
 
 pub returns-else-k-rest : goal.returns-else-k-rest
-returns-else-k-rest c = λ count codes are there.
-    c.places_of.ensures count codes are there ∙ sym (ap (λ (b : Bool). cond b [] (rows_of codes c.args.k)) (ne_eqb c.args.k c.args.rest c.if-k-rest.false))
+returns-else-k-rest c = λ n codes are there.
+    c.places_of.ensures n codes are there
+    ∙ sym (ap (λ (b : Bool). cond b [] (rows_of codes c.args.k)) (ne_eqb c.args.k c.args.rest c.if-k-rest.false))

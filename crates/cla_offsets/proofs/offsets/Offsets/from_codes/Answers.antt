@@ -1,4 +1,4 @@
-use Rattle.std.proofs.Common.{◌≡◌, ◌/◌, ◌∙◌, length, map, ap, arith, rules}
+use Rattle.std.proofs.Common.{◌≡◌, ◌/◌, ◌∙◌, length, arith, rules}
 use Rattle.std.specs.Prelude.{vec_len}
 use Rattle.cla_group.proofs.GroupsMade.{dictionary_values}
 use Rattle.cla_group.proofs.Tuples.{group_with_values}
@@ -20,5 +20,6 @@ of_codes-requires g c =
     let width = c.args.width in
     let values = c.args.values.items in
     let whole : vec_len c.args.values ≡ length values = search rules in
+    let n = length values / width in
     rw (c.new-dictionary.ensures, c.len.ensures ∙ whole)
-        (group_with_values g.N.Number.BITS g.N.Number.value g.met.N.Number.in_range width (length values / width) c.args.codes.now values c.requires.codes)
+        (group_with_values g.N.Number.BITS g.N.Number.value g.met.N.Number.in_range width n c.args.codes.now values c.requires.codes)
