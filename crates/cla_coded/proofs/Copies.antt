@@ -12,6 +12,7 @@ use Rattle.cla_group.specs.Rows.{ArePlaces, projected}
 use Rattle.cla_group.proofs.Counting.{rows_count, code_is, occurs_once, first_row_is, plain_group}
 use Rattle.cla_group.proofs.Tuples.{tuple_value}
 use Rattle.cla_group.proofs.Regroup.{first_row_there, code_of_first_row}
+use Rattle.cla_coded.specs.Outlines.{OutlineOf}
 use Rattle.cla_coded.specs.Layouts.{LayoutPart, IsWhole, IsPart, index_of, part_at, entry_in, matrix_in, loose_layout}
 use Rattle.cla_coded.proofs.Matrices.{same_matrix}
 
@@ -100,3 +101,10 @@ loose_stands m shaped =
     let there : index_of columns j < length columns = omega (arith, index, col, rows_count m.cols) in
     sym (rw (lt-ltb (index_of columns j) (length columns) there, index, code_is m.rows i row) (tuple_value m.cols m.rows m.cells i j row col)))) in
     ap (λ (cs : List ℤ). record { rows = m.rows; cols = m.cols; cells = cs }) (sym cells)
+
+-- an outline is its columns, width and codes
+pub equal_outlines : (p q : OutlineOf) → p.columns ≡ q.columns → p.width ≡ q.width → p.codes ≡ q.codes → p ≡ q
+equal_outlines p q columns width codes =
+    ap (λ (x : List ℕ). record { columns = x; width = p.width; codes = p.codes }) columns
+    ∙ ap (λ (x : ℕ). record { columns = q.columns; width = x; codes = p.codes }) width
+    ∙ ap (λ (x : List ℕ). record { columns = q.columns; width = q.width; codes = x }) codes

@@ -2,9 +2,10 @@
 
 ghost use Rattle.std.specs.Prelude.{◌≡◌, ◌∷◌, [], None, false, length, IfOk};
 ghost use Rattle.std.specs.List.{range_with_len};
-ghost use Rattle.cla_coded.specs.AnyGroups.{any_codes, any_dictionary, any_form};
+ghost use Rattle.cla_coded.specs.AnyGroups.{any_columns, any_codes, any_dictionary, any_form};
 ghost use Rattle.cla_coded.specs.Forms.{forms_of};
 ghost use Rattle.cla_coded.specs.Layouts.{loose_layout};
+ghost use Rattle.cla_coded.specs.Outlines.{outline};
 ghost use Rattle.cla_coded.specs.Parts.{part_of};
 ghost use Rattle.cla_coded.specs.Tables.{layout_of};
 
@@ -56,6 +57,7 @@ fn copy_part<N: Number>(
     alloc: Global,
     part: &Part<AnyGroup<N>>,
 ) -> Result<Part<AnyGroup<N>>, Memory>
+    ensures outline { IfOk result (λ p. outline any_columns any_codes p ≡ outline any_columns any_codes part.now) }
     ensures part { IfOk result (λ p. part_of any_codes any_dictionary p ≡ part_of any_codes any_dictionary part.now) }
     ensures form { IfOk result (λ p. any_form p.group ≡ any_form part.now.group) }
 {

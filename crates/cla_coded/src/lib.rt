@@ -1,16 +1,10 @@
 //! Tables: matrices that are kept as groups of columns of any kind, and their transposes.
 #![tactic(auto)]
 
-<<<<<<< HEAD
 mod any_group;
-mod coded;
-=======
-// mod any_group;
-// mod any_impls;
-// mod coded;
 #[cfg(test)]
 mod borrowed;
->>>>>>> d3fe8c3ff8645f054eb0787b1a3cfd62652dd792
+mod coded;
 mod codes;
 mod dense;
 mod entry;

@@ -59,9 +59,9 @@ impl<N: Number, G: Group<N>> Table<N, G> {
         }
     }
 
-    /// The table of the same shape with these parts, whose groups have the same columns and codes, and
-    /// any values. An operator makes its result by it.
-    pub fn with_parts<H: Group<N>>(&self, parts: Vec<Part<H>>) -> Table<N, H>
+    // The table of the same shape with these parts, whose groups have the same columns and codes, and
+    // any values.
+    pub(crate) fn with_parts<H: Group<N>>(&self, parts: Vec<Part<H>>) -> Table<N, H>
         requires { map (outline H.columns H.codes) parts.items ≡ map (outline G.columns G.codes) self.now.parts }
         ensures { let old = self.now in
             result ≡ record { rows = old.rows; cols = old.cols; flipped = old.flipped; parts = parts.items } }
@@ -148,20 +148,6 @@ impl<N: Number, G: Group<N>> Table<N, G> {
             flipped: self.flipped,
             parts,
         })
-    }
-
-    // The table of other parts with the same columns, codes and tuples.
-    pub(crate) fn with_parts(&self, parts: Vec<Part<G>>) -> Table<N, G>
-        requires { parts_of G.codes G.dictionary parts.items ≡ parts_of G.codes G.dictionary self.now.parts }
-        ensures { result ≡ record self.now { parts = parts.items } }
-    {
-        Table {
-            rows: self.rows,
-            cols: self.cols,
-            flipped: self.flipped,
-            parts,
-            numbers: PhantomData,
-        }
     }
 
     /// The transpose. It takes no memory.
