@@ -1,11 +1,11 @@
 -- Rows whose places are joined with parts.
-use Rattle.std.proofs.Common.{◌≡◌, Bool, cond, [], ℕ, ℤ, ◌+◌, ◌-◌, ◌*◌, ◌<◌, ◌≤◌, List, length, refl, ap, sym, ◌∙◌, arith, inl, inr}
+use Rattle.std.proofs.Common.{◌≡◌, Bool, cond, [], ℕ, ℤ, ◌+◌, ◌-◌, ◌*◌, ◌<◌, ◌≤◌, List, length, ap, sym, ◌∙◌, arith, inl, inr}
 use Rattle.std.proofs.lemmas.Bool.{cases_lt, cases_eq, eq-eqb}
 use Rattle.cla_group.specs.Groups.{at, code_of}
 use Rattle.cla_group.specs.Listed.{rows_of}
 use Rattle.cla_offsets.specs.Segments.{segment_rows, segment_of, listed}
 use Rattle.cla_offsets.specs.Walks.{AreJoined, IsListJoined}
-use Rattle.cla_offsets.proofs.ListedRows.{AreListed, are_listed}
+use Rattle.cla_offsets.proofs.ListedRows.{are_listed}
 use Rattle.cla_offsets.proofs.SegmentRows.{segment_row, segment_size}
 
 -- the rows of the segments before segment s are joined, and the others are as they were

@@ -1,6 +1,6 @@
 -- Where the list of each segment and code stands.
 use Rattle.std.proofs.Common.{◌≡◌, ℕ, zero, suc, ◌+◌, ◌-◌, ◌*◌, ◌<◌, ◌≤◌, List, [], ◌∷◌, ◌++◌, length, take, drop}
-use Rattle.std.proofs.Common.{refl, subst, ap, sym, ◌∙◌, arith, inl, inr}
+use Rattle.std.proofs.Common.{subst, ap, sym, ◌∙◌, arith, inl, inr}
 use Rattle.std.proofs.lemmas.Bool.{cases_eq}
 use Rattle.std.proofs.lemmas.List.{length-append, take_all}
 use Rattle.cla_group.specs.Groups.{code_of}
@@ -15,7 +15,8 @@ use Rattle.cla_offsets.proofs.ListedRows.{listed_few}
 use Rattle.cla_offsets.proofs.SegmentRows.{segment_size}
 
 -- one more segment
-pub more_lists : (s : ℕ) (v : OffsetsOf) (old new : Lists) → AreLists s v old → AreAdded (segment_of v.codes s) v.tuples v.rest old new → AreLists (s + 1) v new
+pub more_lists : (s : ℕ) (v : OffsetsOf) (old new : Lists) → AreLists s v old →
+    AreAdded (segment_of v.codes s) v.tuples v.rest old new → AreLists (s + 1) v new
 more_lists s v old new are more =
     let f = lists_of v in
     record {
@@ -76,12 +77,14 @@ starts_size v n = lists_size (starts_of v) (v.tuples + 1) n (λ i. begins_count 
 pub bases_count : (n : ℕ) (v : OffsetsOf) (l : Lists) → AreLists n v l → length l.bases.items ≡ n
 bases_count n v l are = ap length are.bases ∙ begins_count (lists_of v) n
 
-pub start_there : (n : ℕ) (v : OffsetsOf) (l : Lists) → AreLists n v l → (s k : ℕ) → s < n → k ≤ v.tuples → s * (v.tuples + 1) + k < length l.starts.items
+pub start_there : (n : ℕ) (v : OffsetsOf) (l : Lists) → AreLists n v l → (s k : ℕ) → s < n → k ≤ v.tuples →
+    s * (v.tuples + 1) + k < length l.starts.items
 start_there n v l are s k s_there there =
     omega (arith, ap length are.starts, starts_size v n, place_within (v.tuples + 1) n s k s_there (omega (arith, there)))
 
 -- what is kept is where the list begins
-pub begin_is : (n : ℕ) (v : OffsetsOf) (l : Lists) → AreLists n v l → (s k : ℕ) → s < n → k ≤ v.tuples → begin_kept v.tuples l s k ≡ list_begin v s k
+pub begin_is : (n : ℕ) (v : OffsetsOf) (l : Lists) → AreLists n v l → (s k : ℕ) → s < n → k ≤ v.tuples →
+    begin_kept v.tuples l s k ≡ list_begin v s k
 begin_is n v l are s k s_there there =
     let f = lists_of v in
     let g = list_of v s in
@@ -93,7 +96,8 @@ begin_is n v l are s k s_there there =
     ∙ begin_at g k (v.tuples + 1) (omega (arith, there)) in
     omega (arith, base, start)
 
-pub list_is : (n : ℕ) (v : OffsetsOf) (l : Lists) → AreLists n v l → (s k : ℕ) → s < n → k < v.tuples → list_kept v.tuples l s k ≡ list_of v s k
+pub list_is : (n : ℕ) (v : OffsetsOf) (l : Lists) → AreLists n v l → (s k : ℕ) → s < n → k < v.tuples →
+    list_kept v.tuples l s k ≡ list_of v s k
 list_is n v l are s k s_there there =
     let begin = list_begin v s in
     let items = l.offsets.items in

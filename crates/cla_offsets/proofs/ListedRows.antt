@@ -7,7 +7,7 @@ use Rattle.std.proofs.lemmas.List.{length-append}
 use Rattle.cla_group.specs.Groups.{code_of, occurrences_of}
 use Rattle.cla_group.specs.Grouped.{below}
 use Rattle.cla_group.specs.Listed.{rows_of, rows_where}
-use Rattle.cla_group.proofs.Listings.{AreRowsWhere, are_rows_where, row_listed, row_place, rows_of_count}
+use Rattle.cla_group.proofs.Listings.{are_rows_where, row_listed, row_place, rows_of_count}
 use Rattle.cla_group.proofs.Ranks.{below_more, below_few}
 use Rattle.cla_offsets.specs.Segments.{listed, lists_to}
 use Rattle.cla_offsets.proofs.Chains.{lists_none, lists_more}

@@ -4,7 +4,7 @@ use Rattle.std.specs.List.{position_or_len}
 use Rattle.std.specs.Option.{unwrap_or}
 use Rattle.std.proofs.lemmas.Bool.{le-ltb}
 use Rattle.cla_group.specs.Listed.{is_zero, rest_of}
-use Rattle.cla_offsets.specs.Rows.{OffsetsOf, rest_in}
+use Rattle.cla_offsets.specs.Rows.{rest_in}
 
 -- a code that is kept as a number below n, or as n
 abbrev option_of : ℕ → ℕ → Option ℕ

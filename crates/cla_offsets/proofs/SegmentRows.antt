@@ -9,7 +9,8 @@ use Rattle.cla_group.specs.Groups.{code_of}
 use Rattle.cla_offsets.specs.Segments.{segment_rows, segment_of, segments_of}
 
 pub segment_size : (codes : List ℕ) (s : ℕ) → length (segment_of codes s) ≡ min segment_rows (length codes - s * segment_rows)
-segment_size codes s = length-take segment_rows (drop (s * segment_rows) codes) ∙ ap (min segment_rows) (length-drop (s * segment_rows) codes)
+segment_size codes s =
+    length-take segment_rows (drop (s * segment_rows) codes) ∙ ap (min segment_rows) (length-drop (s * segment_rows) codes)
 
 -- the codes of a segment are those of the rows from its first one on
 pub segment_row : (codes : List ℕ) (s j : ℕ) → j < length (segment_of codes s) →
@@ -17,11 +18,13 @@ pub segment_row : (codes : List ℕ) (s j : ℕ) → j < length (segment_of code
 segment_row codes s j there =
     let rows = drop (s * segment_rows) codes in
     let within : j < segment_rows = omega (arith, there, segment_size codes s) in
-    (within, omega (arith, there, segment_size codes s), get_or-take segment_rows rows j 0 within ∙ get_or-drop (s * segment_rows) codes j 0)
+    let is = get_or-take segment_rows rows j 0 within ∙ get_or-drop (s * segment_rows) codes j 0 in
+    (within, omega (arith, there, segment_size codes s), is)
 
 -- the segment of a row, and its place there
 pub row_in_segment : (codes : List ℕ) (i : ℕ) → i < length codes →
-    (i % segment_rows < length (segment_of codes (i / segment_rows))) × (code_of (segment_of codes (i / segment_rows)) (i % segment_rows) ≡ code_of codes i)
+    (i % segment_rows < length (segment_of codes (i / segment_rows)))
+    × (code_of (segment_of codes (i / segment_rows)) (i % segment_rows) ≡ code_of codes i)
 row_in_segment codes i row =
     let s = i / segment_rows in
     let place : s * segment_rows + i % segment_rows ≡ i = omega arith in
@@ -33,7 +36,8 @@ pub segment_there : (rows s : ℕ) → s * segment_rows < rows → s < segments_
 segment_there rows s begins = omega (arith, begins)
 
 -- the rows of a segment, cut out
-pub segment_cut : (codes : List ℕ) (s n : ℕ) → n ≡ min segment_rows (length codes - s * segment_rows) → take n (drop (s * segment_rows) codes) ≡ segment_of codes s
+pub segment_cut : (codes : List ℕ) (s n : ℕ) → n ≡ min segment_rows (length codes - s * segment_rows) →
+    take n (drop (s * segment_rows) codes) ≡ segment_of codes s
 segment_cut codes s n is = elim (cases_lt (length codes - s * segment_rows) segment_rows) [
   | inl fewer ↦
       let from = drop (s * segment_rows) codes in
@@ -43,8 +47,8 @@ segment_cut codes s n is = elim (cases_lt (length codes - s * segment_rows) segm
 ]
 
 -- the part of a buffer that holds a segment, and the buffer with the segment in it
-pub buffer_part : (codes : List ℕ) (s : ℕ) (buffer : List ℕ) (n : ℕ) → length buffer ≡ segment_rows → n ≡ min (length codes - s * segment_rows) segment_rows →
-    length (take n buffer) ≡ length (segment_of codes s)
+pub buffer_part : (codes : List ℕ) (s : ℕ) (buffer : List ℕ) (n : ℕ) → length buffer ≡ segment_rows →
+    n ≡ min (length codes - s * segment_rows) segment_rows → length (take n buffer) ≡ length (segment_of codes s)
 buffer_part codes s buffer n room is = omega (arith, length-take n buffer, segment_size codes s, is, room)
 
 pub buffer_kept : (codes : List ℕ) (s : ℕ) (buffer segment : List ℕ) (n : ℕ) → length buffer ≡ segment_rows →

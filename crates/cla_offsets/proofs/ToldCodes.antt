@@ -1,137 +1,90 @@
 -- The codes that lists tell.
-use Rattle.std.proofs.Common.{◌≡◌, true, false, Bool, ℕ, ◌+◌, ◌*◌, ◌/◌, ◌%◌, ◌<◌, List, length, cond, eqb, ltb}
-use Rattle.std.proofs.Common.{refl, ap, sym, ◌∙◌, arith, inl, inr}
-use Rattle.std.specs.List.{range_with_len, position_or_len, list_any}
-use Rattle.std.proofs.lemmas.Bool.{cases_Bool, cases_eq, cases_lt, eq-eqb, ne_eqb, lt-ltb, le-ltb, both_ways}
+use Rattle.std.proofs.Common.{◌≡◌, true, false, Bool, ℕ, zero, suc, ◌+◌, ◌/◌, ◌%◌, ◌<◌, ◌≤◌, List, length, cond, eqb}
+use Rattle.std.proofs.Common.{refl, ap, subst, sym, ◌∙◌, arith, inl, inr}
+use Rattle.std.specs.List.{list_any}
+use Rattle.std.proofs.lemmas.Bool.{cases_eq, eq-eqb, ne_eqb}
 use Rattle.std.proofs.lemmas.List.{ext_get_or}
 use Rattle.std.proofs.lemmas.List.FromFn.{length-map-range_with_len, get_or-map-range_with_len}
-use Rattle.std.proofs.lemmas.List.Sums.{position_or_len_is}
 use Rattle.cla_group.specs.Groups.{code_of}
-use Rattle.cla_group.proofs.Counting.{rows_count, code_is}
 use Rattle.cla_offsets.specs.declared.lists.Lists.{Lists}
 use Rattle.cla_offsets.specs.Rows.{OffsetsOf}
-use Rattle.cla_offsets.specs.Segments.{segment_rows, segment_of, segments_of, listed, AreLists, list_kept, code_in, codes_kept}
-use Rattle.cla_offsets.specs.Walks.{code_given}
+use Rattle.cla_offsets.specs.Segments.{segment_rows, segment_of, segments_of, listed, list_of, AreLists, list_kept, code_by, codes_kept}
 use Rattle.cla_offsets.proofs.ListedRows.{list_has}
 use Rattle.cla_offsets.proofs.ListPlaces.{list_is}
 use Rattle.cla_offsets.proofs.SegmentRows.{segment_there, row_in_segment}
 
-has_not : (t u : Bool) → u ≡ false → cond t false u ≡ false
-has_not true u is = refl
-has_not false u is = is
+pub code_by_none : (rest : ℕ) (lists : ℕ → List ℕ) (j : ℕ) → code_by rest lists 0 j ≡ rest
+unfolding code_by
+code_by_none rest lists j = refl
 
--- the code of a row, by lists that are those of its segment
-code_in_is : (codes : List ℕ) (tuples rest : ℕ) (lists : ℕ → List ℕ) (j : ℕ) → j < length codes → code_of codes j < tuples →
-    ((k : ℕ) → k < tuples → lists k ≡ listed codes rest k) → code_in tuples rest lists j ≡ code_of codes j
-code_in_is codes tuples rest lists j row below are =
+pub code_by_more : (rest : ℕ) (lists : ℕ → List ℕ) (k j : ℕ) →
+    code_by rest lists (k + 1) j ≡ cond (list_any (λ o. eqb o j) (lists k)) k (code_by rest lists k j)
+unfolding code_by
+code_by_more rest lists k j = let next : k + 1 ≡ suc k = omega arith in ap (λ (n : ℕ). code_by rest lists n j) next
+
+none_either : (b : Bool) → cond b false false ≡ false
+none_either true = refl
+none_either false = refl
+
+-- the lists of the codes below k tell those codes, and for all others the rest
+record IsTold (code rest k told : ℕ) : Type 0 where
+  below : code < k → told ≡ code
+  above : k ≤ code → told ≡ rest
+
+told_to : (codes : List ℕ) (rest : ℕ) (lists : ℕ → List ℕ) (j n : ℕ) → j < length codes →
+    ((k : ℕ) → k < n → lists k ≡ listed codes rest k) → (k : ℕ) → k ≤ n → IsTold (code_of codes j) rest k (code_by rest lists k j)
+told_to codes rest lists j n row are zero within = record {
+  below = λ less. absurd (omega (arith, less));
+  above = λ _. code_by_none rest lists j;
+}
+told_to codes rest lists j n row are (suc k) within =
     let c = code_of codes j in
-    let has = λ (k : ℕ). list_any (λ o. eqb o j) (lists k) in
-    let all = range_with_len 0 tuples in
-    let size = rows_count tuples in
-    let tests : (k : ℕ) → k < tuples → has (code_of all k) ≡ cond (eqb k rest) false (eqb c k) = λ k there.
-    ap has (code_is tuples k there) ∙ ap (λ (xs : List ℕ). list_any (λ o. eqb o j) xs) (are k there) ∙ list_has codes rest k j row in
-    let lacks : (k : ℕ) → k < tuples → (c ≡ k → ⊥) → has (code_of all k) ≡ false = λ k there other.
-    tests k there ∙ has_not (eqb k rest) (eqb c k) (ne_eqb c k other) in
-    elim (cases_eq c rest) [
-      | inl same ↦
-          let is_rest : (k : ℕ) → k < tuples → has (code_of all k) ≡ false = λ k there. elim (cases_eq c k) [
-            | inl is ↦ tests k there ∙ ap (λ (t : Bool). cond t false (eqb c k)) (eq-eqb k rest (sym is ∙ same))
-            | inr other ↦ lacks k there other
-          ] in
-          let none : position_or_len has all ≡ tuples =
-          position_or_len_is has all tuples 0 (omega (arith, size)) is_rest (λ there. absurd (omega (arith, there, size))) in
-          let past = le-ltb tuples tuples (omega arith) in
-          ap (λ (k : ℕ). cond (ltb k tuples) k rest) none ∙ ap (λ (t : Bool). cond t tuples rest) past ∙ sym same
-      | inr other ↦
-          let here = tests c below ∙ ap (λ (t : Bool). cond t false (eqb c c)) (ne_eqb c rest other) ∙ eq-eqb c c refl in
-          let found : position_or_len has all ≡ c =
-          position_or_len_is has all c 0 (omega (arith, below, size))
-          (λ k before. lacks k (omega (arith, before, below)) (λ equal. absurd (omega (arith, equal, before)))) (λ _. here) in
-          ap (λ (k : ℕ). cond (ltb k tuples) k rest) found ∙ ap (λ (t : Bool). cond t c rest) (lt-ltb c tuples below)
-    ]
+    let next : k + 1 ≡ suc k = omega arith in
+    let so_far = told_to codes rest lists j n row are k (omega (arith, within)) in
+    let choose = λ (b : Bool). cond b k (code_by rest lists k j) in
+    let has = ap (λ (xs : List ℕ). list_any (λ o. eqb o j) xs) (are k (omega (arith, within))) ∙ list_has codes rest k j row in
+    let step = code_by_more rest lists k j ∙ ap choose has in
+    let rest_at = λ (b : Bool). choose (cond b false (eqb c k)) in
+    let is_at = λ (b : Bool). choose (cond (eqb k rest) false b) in
+    subst (λ (m : ℕ). IsTold c rest m (code_by rest lists m j)) next (elim (cases_eq c k) [
+      | inl same ↦ record {
+        below = λ _. step ∙ (elim (cases_eq k rest) [
+          | inl is_rest ↦ ap rest_at (eq-eqb k rest is_rest) ∙ so_far.above (omega (arith, same)) ∙ sym (same ∙ is_rest)
+          | inr other ↦ ap rest_at (ne_eqb k rest other) ∙ ap choose (eq-eqb c k same) ∙ sym same
+        ]);
+        above = λ more. absurd (omega (arith, same, more));
+      }
+      | inr other ↦ (let kept = step ∙ ap is_at (ne_eqb c k other) ∙ ap choose (none_either (eqb k rest)) in record {
+        below = λ less. kept ∙ so_far.below (omega (arith, less, other));
+        above = λ more. kept ∙ so_far.above (omega (arith, more));
+      })
+    ])
 
--- the lists tell all codes
+-- the lists of all codes tell each row's code
+pub code_told : (codes : List ℕ) (rest : ℕ) (lists : ℕ → List ℕ) (j n : ℕ) → j < length codes → code_of codes j < n →
+    ((k : ℕ) → k < n → lists k ≡ listed codes rest k) → code_by rest lists n j ≡ code_of codes j
+code_told codes rest lists j n row below are = (told_to codes rest lists j n row are n (omega arith)).below below
+
+-- row by row
+pub row_told : (v : OffsetsOf) (lists : ℕ → List ℕ) (i : ℕ) → i < length v.codes → code_of v.codes i < v.tuples →
+    ((k : ℕ) → k < v.tuples → lists k ≡ list_of v (i / segment_rows) k) →
+    code_by v.rest lists v.tuples (i % segment_rows) ≡ code_of v.codes i
+row_told v lists i row below are =
+    let here = row_in_segment v.codes i row in
+    let segment = segment_of v.codes (i / segment_rows) in
+    code_told segment v.rest lists (i % segment_rows) v.tuples here.0 (omega (arith, here.1, below)) are ∙ here.1
+
+-- the lists that are kept tell all codes
 pub lists_tell : (v : OffsetsOf) (l : Lists) → ((i : ℕ) → i < length v.codes → code_of v.codes i < v.tuples) →
     AreLists (segments_of (length v.codes)) v l → codes_kept (length v.codes) v.tuples v.rest l ≡ v.codes
 unfolding codes_kept
 lists_tell v l below are =
     let rows = length v.codes in
-    let code = λ (i : ℕ). code_in v.tuples v.rest (list_kept v.tuples l (i / segment_rows)) (i % segment_rows) in
+    let lists = λ (i : ℕ). list_kept v.tuples l (i / segment_rows) in
+    let code = λ (i : ℕ). code_by v.rest (lists i) v.tuples (i % segment_rows) in
     let size = length-map-range_with_len code 0 rows in
     ext_get_or 0 (codes_kept rows v.tuples v.rest l) v.codes size
     (λ i there. (let row : i < rows = rw size at there in
-    let s = i / segment_rows in
-    let here = row_in_segment v.codes i row in
-    let begins : s < segments_of rows = segment_there rows s (omega (arith, row)) in
+    let begins : i / segment_rows < segments_of rows = segment_there rows (i / segment_rows) (omega (arith, row)) in
     get_or-map-range_with_len code 0 rows i i 0 row (omega arith)
-    ∙ code_in_is (segment_of v.codes s) v.tuples v.rest (list_kept v.tuples l s) (i % segment_rows) here.0
-    (omega (arith, here.1, below i row)) (λ k k_there. list_is (segments_of rows) v l are s k begins k_there)
-    ∙ here.1))
-
--- the code of row j where the codes below k are given, and all others have the rest
-abbrev pub code_below : List ℕ → ℕ → ℕ → ℕ → ℕ
-code_below codes rest k j = cond (ltb (code_of codes j) k) (code_of codes j) rest
-
--- the rows of one more code are given theirs
-pub given_more : (codes : List ℕ) (rest k : ℕ) (list old new : List ℕ) → list ≡ listed codes rest k →
-    ((j : ℕ) → j < length codes → code_of old j ≡ code_below codes rest k j) → ((j : ℕ) → j < length codes → code_of new j ≡ code_given k list old j) →
-    (j : ℕ) → j < length codes → code_of new j ≡ code_below codes rest (k + 1) j
-given_more codes rest k list old new is so_far given j row =
-    let c = code_of codes j in
-    let has : list_any (λ o. eqb o j) list ≡ cond (eqb k rest) false (eqb c k) =
-    ap (λ (xs : List ℕ). list_any (λ o. eqb o j) xs) is ∙ list_has codes rest k j row in
-    let next = given j row ∙ ap (λ (t : Bool). cond t k (code_of old j)) has in
-    let below = λ (t : Bool). cond t c rest in
-    elim (cases_eq c k) [
-      | inl same ↦
-          let wanted : code_below codes rest (k + 1) j ≡ c = ap below (lt-ltb c (k + 1) (omega (arith, same))) in
-          elim (cases_eq k rest) [
-            | inl is_rest ↦
-                next ∙ ap (λ (t : Bool). cond (cond t false (eqb c k)) k (code_of old j)) (eq-eqb k rest is_rest)
-                ∙ so_far j row ∙ ap below (le-ltb c k (omega (arith, same))) ∙ sym is_rest ∙ sym same ∙ sym wanted
-            | inr other ↦
-                let found = ap (λ (t : Bool). cond t false (eqb c k)) (ne_eqb k rest other) ∙ eq-eqb c k same in
-                next ∙ ap (λ (t : Bool). cond t k (code_of old j)) found ∙ sym same ∙ sym wanted
-          ]
-      | inr other ↦
-          next ∙ ap (λ (t : Bool). cond t k (code_of old j)) (has_not (eqb k rest) (eqb c k) (ne_eqb c k other)) ∙ so_far j row
-          ∙ ap below (elim (cases_lt c k) [
-            | inl lower ↦ lt-ltb c k lower ∙ sym (lt-ltb c (k + 1) (omega (arith, lower)))
-            | inr upper ↦ le-ltb c k upper ∙ sym (le-ltb c (k + 1) (grind (arith, upper, other)))
-          ])
-    ]
-
--- before the first of them all have the rest, and after the last one theirs
-pub none_given : (codes : List ℕ) (rest j : ℕ) → rest ≡ code_below codes rest 0 j
-none_given codes rest j = sym (ap (λ (t : Bool). cond t (code_of codes j) rest) (le-ltb (code_of codes j) 0 (omega arith)))
-
-pub all_given : (codes : List ℕ) (rest k : ℕ) (into : List ℕ) → length into ≡ length codes → ((j : ℕ) → j < length codes → code_of codes j < k) →
-    ((j : ℕ) → j < length into → code_of into j ≡ code_below codes rest k j) → into ≡ codes
-all_given codes rest k into count below given =
-    ext_get_or 0 into codes count
-    (λ j there.
-    (let lower = below j (omega (arith, there, count)) in
-    given j there ∙ ap (λ (t : Bool). cond t (code_of codes j) rest) (lt-ltb (code_of codes j) k lower)))
-
--- a row that a list has is one of its code; one that it lacks is of another code, or of the rest
-pub has_its_code : (codes : List ℕ) (rest k j : ℕ) (list : List ℕ) → list ≡ listed codes rest k → j < length codes →
-    list_any (λ o. eqb o j) list ≡ true → code_of codes j ≡ k
-has_its_code codes rest k j list is row has =
-    let c = code_of codes j in
-    elim (cases_eq c k) [
-      | inl same ↦ same
-      | inr other ↦
-          let lacks = list_has codes rest k j row ∙ has_not (eqb k rest) (eqb c k) (ne_eqb c k other) in
-          absurd (both_ways _ lacks (ap (λ (xs : List ℕ). list_any (λ o. eqb o j) xs) (sym is) ∙ has))
-    ]
-
-pub lacks_its_code : (codes : List ℕ) (rest k j : ℕ) (list : List ℕ) → list ≡ listed codes rest k → j < length codes →
-    list_any (λ o. eqb o j) list ≡ false → code_of codes j ≡ k → k ≡ rest
-lacks_its_code codes rest k j list is row lacks same =
-    let c = code_of codes j in
-    elim (cases_eq k rest) [
-      | inl is_rest ↦ is_rest
-      | inr other ↦
-          let has = list_has codes rest k j row ∙ ap (λ (t : Bool). cond t false (eqb c k)) (ne_eqb k rest other) ∙ eq-eqb c k same in
-          absurd (both_ways _ (ap (λ (xs : List ℕ). list_any (λ o. eqb o j) xs) (sym is) ∙ lacks) has)
-    ]
+    ∙ row_told v (lists i) i row (below i row) (λ k k_there. list_is (segments_of rows) v l are (i / segment_rows) k begins k_there)))

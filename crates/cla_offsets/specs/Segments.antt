@@ -1,7 +1,7 @@
 -- Rows that are kept as lists of offsets, by segments of rows (PVLDB 9(12), section 3, offset-list encoding).
 use Rattle.std.specs.Prelude.{◌≡◌, ℕ, suc, zero, ◌+◌, ◌-◌, ◌*◌, ◌/◌, ◌%◌, ◌<◌, ◌≤◌, List, [], ◌∷◌, ◌++◌}
-use Rattle.std.specs.Prelude.{length, map, take, drop, Bool, ◌==◌, nat_lt, if◌then◌else◌}
-use Rattle.std.specs.List.{range_with_len, position_or_len, list_any}
+use Rattle.std.specs.Prelude.{length, map, take, drop, ◌==◌, if◌then◌else◌}
+use Rattle.std.specs.List.{range_with_len, list_any}
 use Rattle.cla_spec.specs.Matrix.{most_cells}
 use Rattle.cla_group.specs.declared.row_counts.Occurrences.{Occurrences}
 use Rattle.cla_group.specs.Groups.{code_of}
@@ -71,17 +71,19 @@ abbrev pub begin_kept : ℕ → Lists → ℕ → ℕ → ℕ
 begin_kept tuples l s k = code_of l.bases.items s + code_of l.starts.items (s * (tuples + 1) + k)
 
 abbrev pub list_kept : ℕ → Lists → ℕ → ℕ → List ℕ
-list_kept tuples l s k = let begin = begin_kept tuples l s k in take (begin_kept tuples l s (k + 1) - begin) (drop begin l.offsets.items)
+list_kept tuples l s k =
+    let begin = begin_kept tuples l s k in
+    take (begin_kept tuples l s (k + 1) - begin) (drop begin l.offsets.items)
 
--- the code of the row with offset j, by the lists of its segment: the code whose list has it, or else the rest
-abbrev pub code_in : ℕ → ℕ → (ℕ → List ℕ) → ℕ → ℕ
-code_in tuples rest lists j =
-    let k = position_or_len (λ k. list_any (λ o. o == j) (lists k)) (range_with_len 0 tuples) in
-    if nat_lt k tuples then k else rest
+-- the code of the row with offset j, by the lists of the first n codes: the one whose list has it, or else the rest
+unfoldable pub code_by : ℕ → (ℕ → List ℕ) → ℕ → ℕ → ℕ
+code_by rest lists zero j = rest
+code_by rest lists (suc k) j = if list_any (λ o. o == j) (lists k) then k else code_by rest lists k j
 
 -- the rows that are kept by these lists
 unfoldable pub codes_kept : ℕ → ℕ → ℕ → Lists → List ℕ
-codes_kept rows tuples rest l = map (λ i. code_in tuples rest (list_kept tuples l (i / segment_rows)) (i % segment_rows)) (range_with_len 0 rows)
+codes_kept rows tuples rest l =
+    map (λ i. code_by rest (list_kept tuples l (i / segment_rows)) tuples (i % segment_rows)) (range_with_len 0 rows)
 
 abbrev pub rows_kept : ℕ → ℕ → ℕ → Lists → OffsetsOf
 rows_kept rows tuples rest l = record { codes = codes_kept rows tuples rest l; tuples = tuples; rest = rest }

@@ -1,5 +1,5 @@
 -- Walks over the rows of a segment.
-use Rattle.std.specs.Prelude.{◌≡◌, ℕ, ℤ, ◌+◌, ◌<◌, ◌≤◌, List, length, Bool, ◌==◌, if◌then◌else◌}
+use Rattle.std.specs.Prelude.{◌≡◌, ℕ, ℤ, ◌+◌, ◌<◌, ◌≤◌, List, length, ◌==◌, if◌then◌else◌}
 use Rattle.std.specs.List.{list_any}
 use Rattle.cla_group.specs.declared.grouped.Grouped.{Grouped}
 use Rattle.cla_group.specs.Groups.{at, code_of, gathered_to}

@@ -70,6 +70,15 @@ impl Lists {
         Ok(())
     }
 
+    // Where the list of segment s begins whose start is start p.
+    pub(crate) fn begin(&self, s: u32, p: usize) -> usize
+        requires segment { s < length self.now.bases.items }
+        requires place { p < length self.now.starts.items }
+        ensures { result ≡ code_of self.now.bases.items s + code_of self.now.starts.items p }
+    {
+        self.bases[s as usize] as usize + self.starts[p] as usize
+    }
+
     // Where the next list begins, counted from its segment's base.
     fn next_start(&self, base: usize) -> u16
         requires past { base ≤ length self.now.offsets.items }

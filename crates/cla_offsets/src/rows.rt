@@ -8,7 +8,9 @@ ghost use Rattle.cla_offsets.specs.Segments.{segment_rows, segment_of, list_of, 
 ghost use Rattle.cla_offsets.specs.Walks.{MayScatter, MayBeJoined, AreJoined, AreGathered};
 
 use crate::lists::{Lists, SEGMENT_ROWS, segment_count, segment_in};
-use crate::walks::{fill_codes, gather_codes, give_code, has_offset, join_codes, join_list, push_part};
+use crate::walks::{
+    fill_codes, gather_codes, give_code, has_offset, join_codes, join_list, push_part,
+};
 use cla_group::{Join, Occurrences, counted};
 use cla_num::{Memory, Number, Wide};
 use std::alloc::Global;
@@ -100,7 +102,7 @@ impl OffsetRows {
         ensures { result ≡ list_begin self.now s k }
     {
         let p = s as usize * (self.tuples as usize + 1) + k as usize;
-        self.lists.bases[s as usize] as usize + self.lists.starts[p] as usize
+        self.lists.begin(s, p)
     }
 
     /// How many rows have code k.
@@ -125,7 +127,7 @@ impl OffsetRows {
         ensures { result ≡ code_of self.now.codes i }
     {
         let offset = (i % SEGMENT_ROWS) as u16;
-        for k in 0..self.tuples {
+        for k in (0..self.tuples).rev() {
             if has_offset(self.list(k, i / SEGMENT_ROWS), offset) {
                 return k;
             }

@@ -32,7 +32,13 @@ module _ {rows : ℕ} {codes : List ℕ} {rest : ℕ} {begins ends keys : List �
   ends_past zero within = omega arith
   ends_past (suc n) within =
       let e : suc n ≡ n + 1 = omega arith in
-      rw e (omega (arith, ends_past n (omega (arith, within)), are.rising n (omega (arith, within)), are.not_empty n (omega (arith, within))))
+      rw e (omega (
+        arith,
+        ends_past n (omega (arith, within)),
+        are.rising n (omega (arith, within)),
+        are.not_empty n
+            (omega (arith, within)),
+      ))
 
   pub runs_few : length keys ≤ rows
   runs_few = omega (arith, ends_past (length keys) (omega arith), are.rising (length keys) (omega arith), are.last)
@@ -51,18 +57,21 @@ module _ {rows : ℕ} {codes : List ℕ} {rest : ℕ} {begins ends keys : List �
   pub run_there : (n b : ℕ) → n ≤ length keys → code_of begins n < b → b ≤ rows → n < length keys
   run_there n b there before within = elim (cases_lt n (length keys)) [
     | inl below ↦ below
-    | inr past ↦ (let e : n ≡ length keys = omega (arith, past, there) in absurd (omega (arith, before, within, are.last, ap (code_of begins) e)))
+    | inr past ↦ (let e : n ≡ length keys = omega (arith, past, there) in
+        absurd (omega (arith, before, within, are.last, ap (code_of begins) e)))
   ]
 
   -- run n, and all stretches of rows
-  pub run_stretch : rows ≤ length codes → (n : ℕ) → n < length keys → IsStretch codes (code_of keys n) (code_of begins n) (code_of ends (n + 1))
+  pub run_stretch : rows ≤ length codes → (n : ℕ) → n < length keys →
+      IsStretch codes (code_of keys n) (code_of begins n) (code_of ends (n + 1))
   run_stretch few n there = record {
     order = omega (arith, are.not_empty n there);
     within = omega (arith, few, end_within (n + 1) (omega (arith, there)));
     same = λ i from before. are.in_run n i there from before;
   }
 
-  pub stretch_is : rows ≤ length codes → (s : ℕ) → s < 2 * length keys + 1 → IsStretch codes (stretch_code rest keys s) (edge begins ends s) (edge begins ends (s + 1))
+  pub stretch_is : rows ≤ length codes → (s : ℕ) → s < 2 * length keys + 1 →
+      IsStretch codes (stretch_code rest keys s) (edge begins ends s) (edge begins ends (s + 1))
   stretch_is few s there =
       let n = s / 2 in
       elim (cases_eq (s % 2) 0) [
@@ -70,7 +79,12 @@ module _ {rows : ℕ} {codes : List ℕ} {rest : ℕ} {begins ends keys : List �
             let gap : n ≤ length keys = omega (arith, there, even) in
             let next : (s + 1) / 2 ≡ n = omega (arith, even) in
             rw (eq-eqb (s % 2) 0 even, ne_eqb ((s + 1) % 2) 0 (λ e. omega (arith, e, even)), next)
-            (record { order = are.rising n gap; within = omega (arith, few, begin_within n gap); same = λ i from before. are.in_gap n i gap from before })
+            (record {
+              order = are.rising n gap;
+              within = omega (arith, few, begin_within n gap);
+              same =
+                  λ i from before. are.in_gap n i gap from before;
+            })
         | inr odd ↦
             let next : (s + 1) / 2 ≡ n + 1 = omega (arith, odd) in
             rw (ne_eqb (s % 2) 0 odd, eq-eqb ((s + 1) % 2) 0 (omega (arith, odd)), next) (run_stretch few n (omega (arith, there, odd)))
@@ -90,11 +104,13 @@ module _ {rows : ℕ} {codes : List ℕ} {rest : ℕ} {begins ends keys : List �
   pub stretch_there : (s b : ℕ) → s ≤ 2 * length keys + 1 → edge begins ends s < b → b ≤ rows → s < 2 * length keys + 1
   stretch_there s b there before within = elim (cases_lt s (2 * length keys + 1)) [
     | inl below ↦ below
-    | inr past ↦ (let e : s ≡ 2 * length keys + 1 = omega (arith, past, there) in absurd (omega (arith, before, within, edge_last, ap (edge begins ends) e)))
+    | inr past ↦ (let e : s ≡ 2 * length keys + 1 = omega (arith, past, there) in
+        absurd (omega (arith, before, within, edge_last, ap (edge begins ends) e)))
   ]
 
   -- what holds of all codes holds of the keys
-  pub key_below : {tuples : ℕ} → rows ≤ length codes → ((i : ℕ) → i < length codes → code_of codes i < tuples) → (n : ℕ) → n < length keys → code_of keys n < tuples
+  pub key_below : {tuples : ℕ} → rows ≤ length codes → ((i : ℕ) → i < length codes → code_of codes i < tuples) → (n : ℕ) →
+      n < length keys → code_of keys n < tuples
   key_below few below n there =
       let run = run_stretch few n there in
       let some = are.not_empty n there in
@@ -113,8 +129,13 @@ module _ {rows : ℕ} {codes : List ℕ} {rest : ℕ} {begins ends keys : List �
       let few : p ≤ length ends = (elim (cases_lt p (length ends)) [
         | inl below ↦ omega (arith, below)
         | inr above ↦
-            let fails = λ (k : ℕ) (before : k < length ends). fails_before_first (λ end. ltb i end) ends k 0 (omega (arith, before, above)) in
-            omega (arith, position_or_len_is (λ end. ltb i end) ends (length ends) 0 (omega arith) fails (λ more. absurd (omega (arith, more))))
+            let fails = λ (k : ℕ) (before : k < length ends). fails_before_first (λ end. ltb i end) ends k 0
+            (omega (arith, before, above)) in
+            omega (
+              arith,
+              position_or_len_is (λ end. ltb i end) ends (length ends) 0 (omega arith) fails
+                  (λ more. absurd (omega (arith, more))),
+            )
       ]) in
       let some : 0 < p = (elim (cases_lt 0 p) [
         | inl some ↦ some
@@ -127,11 +148,13 @@ module _ {rows : ℕ} {codes : List ℕ} {rest : ℕ} {begins ends keys : List �
       record {
         there = omega (arith, some, few, are.an_end_each);
         from = ltb-false i (code_of ends (p - 1)) (fails_before_first (λ end. ltb i end) ends (p - 1) 0 (omega (arith, some)));
-        before = λ more. rw next (ltb-true i (code_of ends p) (passes_at_first (λ end. ltb i end) ends 0 (omega (arith, next, more, are.an_end_each))));
+        before = λ more. rw next (ltb-true i (code_of ends p)
+            (passes_at_first (λ end. ltb i end) ends 0 (omega (arith, next, more, are.an_end_each))));
       }
 
   -- a row that stands in a run has its code, and another has the rest
-  pub code_in_run : (i n : ℕ) → i < rows → IsAtRun ends (length keys) i n → code_of begins n ≤ i → (n < length keys) × (code_of codes i ≡ code_of keys n)
+  pub code_in_run : (i n : ℕ) → i < rows → IsAtRun ends (length keys) i n → code_of begins n ≤ i →
+      (n < length keys) × (code_of codes i ≡ code_of keys n)
   code_in_run i n row is from =
       let there = run_there n (i + 1) is.there (omega (arith, from)) (omega (arith, row)) in
       (there, are.in_run n i there from (is.before there))
@@ -144,7 +167,8 @@ module _ {rows : ℕ} {codes : List ℕ} {rest : ℕ} {begins ends keys : List �
       let n = ended_by ends i in
       elim (cases_lt i (code_of begins n)) [
         | inl gap ↦ ap (λ (b : Bool). cond b (code_of keys n) rest) (lt-leb (code_of begins n) i gap) ∙ sym (code_in_gap i n (at_run i) gap)
-        | inr run ↦ ap (λ (b : Bool). cond b (code_of keys n) rest) (le-leb (code_of begins n) i run) ∙ sym ((code_in_run i n row (at_run i) run).1)
+        | inr run ↦ ap (λ (b : Bool). cond b (code_of keys n) rest) (le-leb (code_of begins n) i run)
+            ∙ sym ((code_in_run i n row (at_run i) run).1)
       ]
 
   -- so the runs tell the codes

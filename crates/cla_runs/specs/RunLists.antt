@@ -1,5 +1,7 @@
 -- Lists of runs.
-use Rattle.std.specs.Prelude.{ℕ, List}
+use Rattle.std.specs.Prelude.{ℕ, ◌+◌, List}
+use Rattle.cla_group.specs.Groups.{code_of}
+use Rattle.cla_group.specs.Listed.{rows_of}
 use Rattle.cla_runs.specs.RunBounds.{AreRuns, AreMore}
 use Rattle.cla_runs.specs.declared.run_list.RunList.{RunList}
 
@@ -10,3 +12,7 @@ AreRunsIn runs rows codes rest = AreRuns rows codes rest runs.begins.items runs.
 -- these were the runs in the first rows of some codes, and with the rows up to row `end`, which have one code, are these
 abbrev pub Adds : RunList → ℕ → ℕ → ℕ → RunList → Type 0
 Adds before code rest end after = (rows : ℕ) (codes : List ℕ) → AreRunsIn before rows codes rest → AreMore rows end code codes → AreRunsIn after end codes rest
+
+-- the row after run n of code k
+abbrev pub end_of : RunList → ℕ → ℕ → ℕ
+end_of runs k n = code_of runs.ends.items (code_of (rows_of runs.keys.items k) n + 1)

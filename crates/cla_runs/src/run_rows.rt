@@ -117,10 +117,12 @@ impl RunRows {
     /// part leaves all as they are are passed over.
     pub fn join_each<J: Join>(&self, parts: &[Wide], into: &mut [Wide])
         requires rows { length into.old ≡ length self.now.codes }
-        requires fits { (i : ℕ) → i < length into.old → J.can_join (at into.old i) (at parts.now (code_of self.now.codes i)) }
+        requires fits { (i : ℕ) → i < length into.old
+            → J.can_join (at into.old i) (at parts.now (code_of self.now.codes i)) }
         ensures { Scattered J.join self.now.codes parts.now into.old into.new }
     {
-        for s in 0..2 * self.runs.len() + 1 {
+        let stretches = 2 * self.runs.len() + 1;
+        for s in 0..stretches {
             let part = part_of(parts, self.runs.code(s, self.rest()));
             join_between::<J>(part, self.runs.edge(s), self.runs.edge(s + 1), into);
         }
@@ -191,7 +193,8 @@ impl RunRows {
     /// The numbers of the runs, grouped by code: the runs of all codes but the rest are numbered in the order of
     /// rows. It is for whoever wants all of them, and costs two passes over them.
     pub fn numbers(&self, alloc: Global) -> Result<Grouped, Memory>
-        ensures grouped { IfOk result (λ g. AreGrouped self.now.tuples (listed_keys self.now.codes self.now.rest) g.starts.items g.places.items) }
+        ensures grouped { let rows = self.now in IfOk result
+            (λ g. AreGrouped rows.tuples (listed_keys rows.codes rows.rest) g.starts.items g.places.items) }
         ensures runs { IfOk result (λ _. AreRunsByKey self.now.codes self.now.rest) }
     {
         Ok(group_places(alloc, &self.runs.keys, self.tuples)?)

@@ -42,8 +42,11 @@ impl<N: Number> Runs<N> {
         requires codes { AreCodes width (length values.items / width) codes.now (length values.items) }
         ensures columns { IfOk result (λ g. ⟦<Runs<N> as Group<N>>⟧.columns g ≡ width) }
         ensures codes { IfOk result (λ g. ⟦<Runs<N> as Group<N>>⟧.codes g ≡ codes.now) }
-        ensures dictionary { IfOk result (λ g. ⟦<Runs<N> as Group<N>>⟧.dictionary g ≡ tuples_of width (length values.items / width) (map N.value values.items)) }
-        ensures rest { IfOk result (λ g. rest_in g.rows.value ≡ rest_of codes.now (tuples_of width (length values.items / width) (map N.value values.items))) }
+        ensures dictionary { IfOk result
+            (λ g. ⟦<Runs<N> as Group<N>>⟧.dictionary g
+            ≡ tuples_of width (length values.items / width) (map N.value values.items)) }
+        ensures rest { IfOk result
+            (λ g. rest_in g.rows.value ≡ rest_of codes.now (⟦<Runs<N> as Group<N>>⟧.dictionary g)) }
     {
         let tuples = (values.len() / width as usize) as u32;
         let dictionary = Dictionary::new(width, tuples, values);
@@ -169,7 +172,9 @@ impl<N: Number> Owned<N> for Runs<N> {
         requires some { a < b }
         requires within { b ≤ length self.now.rows.value.codes }
         ensures columns { IfOk result (λ g. g.dictionary.width ≡ self.now.dictionary.width) }
-        ensures rows { IfOk result (λ g. AreRowsFrom a (b - a) self.now.dictionary.width self.now.rows.value.codes self.now.dictionary.tuples g.rows.value.codes g.dictionary.tuples) }
+        ensures rows { let p = self.now in IfOk result
+            (λ g. AreRowsFrom a (b - a) p.dictionary.width p.rows.value.codes p.dictionary.tuples
+            g.rows.value.codes g.dictionary.tuples) }
         ensures numbered { IfOk result (λ g. AreNumbered g.rows.value.codes (length g.dictionary.tuples)) }
         ensures rest { IfOk result (λ g. rest_in g.rows.value ≡ rest_of g.rows.value.codes g.dictionary.tuples) }
     {
@@ -182,7 +187,8 @@ impl<N: Number> Owned<N> for Runs<N> {
         requires places { ArePlaces self.now.dictionary.width places.now }
         ensures columns { IfOk result (λ g. g.dictionary.width ≡ length places.now) }
         ensures codes { IfOk result (λ g. g.rows.value.codes ≡ self.now.rows.value.codes) }
-        ensures dictionary { IfOk result (λ g. g.dictionary.tuples ≡ map (projected places.now) self.now.dictionary.tuples) }
+        ensures dictionary { IfOk result
+            (λ g. g.dictionary.tuples ≡ map (projected places.now) self.now.dictionary.tuples) }
         ensures rest { IfOk result (λ g. rest_in g.rows.value ≡ rest_in self.now.rows.value) }
     {
         Ok(Runs {
@@ -195,12 +201,12 @@ impl<N: Number> Owned<N> for Runs<N> {
         requires whole { length values.items ≡ length self.now.dictionary.tuples * self.now.dictionary.width }
         ensures columns { IfOk result (λ g. g.dictionary.width ≡ self.now.dictionary.width) }
         ensures codes { IfOk result (λ g. g.rows.value.codes ≡ self.now.rows.value.codes) }
-        ensures dictionary { IfOk result (λ g. g.dictionary.tuples ≡ tuples_of self.now.dictionary.width (length self.now.dictionary.tuples) (map N.value values.items)) }
+        ensures dictionary { let d = self.now.dictionary in IfOk result
+            (λ g. g.dictionary.tuples ≡ tuples_of d.width (length d.tuples) (map N.value values.items)) }
         ensures rest { IfOk result (λ g. rest_in g.rows.value ≡ rest_in self.now.rows.value) }
     {
-        Ok(Runs {
-            dictionary: self.dictionary.with_values(values),
-            rows: self.rows.clone()?,
-        })
+        let dictionary = self.dictionary.with_values(values);
+        let rows = self.rows.clone()?;
+        Ok(Runs { dictionary, rows })
     }
 }

@@ -1,4 +1,4 @@
-use Rattle.std.proofs.Common.{◌≡◌, [], Bool, cond, ap, sym, ◌∙◌}
+use Rattle.std.proofs.Common.{[], Bool, cond, ap, sym, ◌∙◌}
 use Rattle.std.proofs.lemmas.Bool.{ne_eqb}
 use Rattle.cla_group.specs.Listed.{rows_of}
 use Rattle.cla_offsets.proofs.lists.rows_listed.Goals as goal

@@ -18,7 +18,8 @@ plus-requires g c =
     let row : i < length c.args.rows.now = omega (arith, c.loop-j-test.true, c.requires.within) in
     let there : k < length c.loop-j.into = omega (arith, c.requires.tuples c.loop-j.j c.loop-j-test.true, c.loop-j.auto.into) in
     let size = gathered_size g.N.Number.BITS value in_range bits so_far.0 c.args.rows.now k i (omega (arith, row)) in
-    let before : unsigned_abs (at c.loop-j.into k) ≤ i * value_bound = rw (c.loop-j.invariant.so_far so_far.0 so_far.1 so_far.2 k there) size in
+    let before : unsigned_abs (at c.loop-j.into k) ≤ i * value_bound =
+    rw (c.loop-j.invariant.so_far so_far.0 so_far.1 so_far.2 k there) size in
     let item = value_size g.N.Number.BITS (value c.index-rows-first.result) bits (in_range c.index-rows-first.result) in
     let here : c.index-into-k.result ≡ at c.loop-j.into k = c.index-into-k.is ∙ get_or_default c.loop-j.into k _ (pos 0) there in
     let sum = plus_size c.index-into-k.result c.wide.result in

@@ -20,7 +20,8 @@ joined-requires g c =
     let there : m < length c.args.offsets.now = c.loop-offset-test.true in
     let place = c.args.first + code_of c.args.offsets.now m in
     let within : place < length c.loop-offset.into = omega (arith, c.requires.within m there, c.loop-offset.auto.into) in
-    let is = unjoined c.args.first c.args.into.now _ _ m _ c.index-into-place.is within there c.requires.rising c.loop-offset.invariant.others in
+    let others = c.loop-offset.invariant.others in
+    let is = unjoined c.args.first c.args.into.now _ _ m _ c.index-into-place.is within there c.requires.rising others in
     subst (λ (z : ℤ). g.J.Join.can_join z c.args.part) (sym is) (c.requires.fits m there)
 
 pub loop-offset-preserved : goal.loop-offset-preserved
@@ -37,7 +38,8 @@ loop-offset-preserved g c =
     record {
       joined = λ n n_there. elim (cases_eq n m) [
         | inl same ↦
-            ap (λ (x : ℕ). at (slice_set into (place m) c.joined.result) (place x)) same ∙ get_or-set_same into (place m) c.joined.result (pos 0) within
+            ap (λ (x : ℕ). at (slice_set into (place m) c.joined.result) (place x)) same
+            ∙ get_or-set_same into (place m) c.joined.result (pos 0) within
             ∙ c.joined.ensures ∙ ap part is ∙ ap (λ (x : ℕ). part (at c.args.into.now (place x))) (sym same)
         | inr other ↦
             let before : n < m = omega (arith, n_there, other) in

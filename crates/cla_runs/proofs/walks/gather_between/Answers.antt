@@ -10,9 +10,11 @@ use Rattle.cla_runs.proofs.walks.gather_between.Goals as goal
 pub loop-i-init : goal.loop-i-init
 loop-i-init g c =
     let sums = c.requires.sums in
-    let here : c.index-into-k.result ≡ at c.args.into.now c.args.k = c.index-into-k.is ∙ get_or_default c.args.into.now c.args.k c.index-into-k.result (pos 0) (c.requires.place c.if-a-b.false) in
+    let here : c.index-into-k.result ≡ at c.args.into.now c.args.k = c.index-into-k.is
+    ∙ get_or_default c.args.into.now c.args.k c.index-into-k.result (pos 0) (c.requires.place c.if-a-b.false) in
     let sum = here ∙ sums.1.sum c.args.k (c.requires.place c.if-a-b.false) in
-    let size = gathered_size _ g.N.Number.value g.met.N.Number.in_range c.requires.bits sums.0 c.args.rows.now c.args.k c.args.a (omega (arith, c.if-a-b.false, c.requires.within)) in
+    let size = gathered_size _ g.N.Number.value g.met.N.Number.in_range c.requires.bits sums.0 c.args.rows.now c.args.k c.args.a
+    (omega (arith, c.if-a-b.false, c.requires.within)) in
     record { size = rw sum size; so_far = λ codes stretch is. here ∙ is }
 
 pub plus-total-requires : goal.plus-total-requires
@@ -35,7 +37,8 @@ loop-i-preserved g c =
     let items = c.args.rows.now in
     let i = c.loop-i.i in
     let item : c.wide.result ≡ at (map value items) i =
-    c.wide.ensures ∙ ap value c.index-rows-i.is ∙ sym (get_or-map value items i c.index-rows-i.result (pos 0) (omega (arith, c.loop-i-test.true, c.requires.within))) in
+    c.wide.ensures ∙ ap value c.index-rows-i.is ∙ sym (get_or-map value items i c.index-rows-i.result (pos 0)
+    (omega (arith, c.loop-i-test.true, c.requires.within))) in
     record {
       size = omega (
         arith,
@@ -59,4 +62,5 @@ returns g c = λ codes stretch so_far.
     (let end : c.loop-i.i ≡ c.args.b = omega (arith, c.loop-i-test.false, c.loop-i.auto.i-end, stretch.order) in
     let place = c.requires.place c.if-a-b.false in
     gathered_on c.loop-i.total so_far stretch place
-    (c.loop-i.invariant.so_far codes stretch (so_far.sum c.args.k place) ∙ ap (gathered_to codes (map g.N.Number.value c.args.rows.now) c.args.k) end))
+    (c.loop-i.invariant.so_far codes stretch (so_far.sum c.args.k place)
+    ∙ ap (gathered_to codes (map g.N.Number.value c.args.rows.now) c.args.k) end))

@@ -11,5 +11,6 @@ invariant-loop-i g l =
     let items = map g.N.Number.value l.rows in
     record {
       size : unsigned_abs l.total ≤ l.i * value_bound;
-      so_far : (codes : List ℕ) → IsStretch codes l.k l.a l.b → at l.fn.into l.k ≡ gathered_to codes items l.k l.a → l.total ≡ gathered_to codes items l.k l.i;
+      so_far : (codes : List ℕ) → IsStretch codes l.k l.a l.b → at l.fn.into l.k ≡ gathered_to codes items l.k l.a →
+          l.total ≡ gathered_to codes items l.k l.i;
     }

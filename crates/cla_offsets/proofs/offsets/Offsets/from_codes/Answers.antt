@@ -22,4 +22,4 @@ of_codes-requires g c =
     let whole : vec_len c.args.values ≡ length values = search rules in
     let n = length values / width in
     rw (c.new-dictionary.ensures, c.len.ensures ∙ whole)
-        (group_with_values g.N.Number.BITS g.N.Number.value g.met.N.Number.in_range width n c.args.codes.now values c.requires.codes)
+    (group_with_values g.N.Number.BITS g.N.Number.value g.met.N.Number.in_range width n c.args.codes.now values c.requires.codes)

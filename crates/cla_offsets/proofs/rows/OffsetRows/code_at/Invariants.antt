@@ -1,7 +1,10 @@
-use Rattle.std.proofs.Common.{◌≡◌, ◌<◌}
+use Rattle.std.proofs.Common.{◌≡◌, ◌/◌, ◌%◌}
 use Rattle.cla_group.specs.Groups.{code_of}
+use Rattle.cla_offsets.specs.Segments.{segment_rows, list_of, code_by}
 use Rattle.cla_offsets.proofs.rows.OffsetRows.code_at.Given as goal
 
--- the row has none of the codes before code k, if it isn't of the rest
+-- the lists of the codes before code k tell the row's code
 abbrev pub invariant-loop-k : goal.invariant-loop-k
-invariant-loop-k l = record { passed : code_of l.self.codes l.i < l.k → code_of l.self.codes l.i ≡ l.self.rest }
+invariant-loop-k l = record {
+  told : code_by l.self.rest (list_of l.self (l.i / segment_rows)) l.k (l.i % segment_rows) ≡ code_of l.self.codes l.i;
+}

@@ -1,4 +1,4 @@
-use Rattle.std.proofs.Common.{◌≡◌, ◌<◌, ◌-◌, ◌*◌, ◌++◌, ◌∙◌, ℕ, List, length, take, drop, ap, arith}
+use Rattle.std.proofs.Common.{◌-◌, ◌*◌, ◌++◌, ◌∙◌, ℕ, List, take, drop, ap, arith}
 use Rattle.cla_offsets.specs.Segments.{segment_rows}
 use Rattle.cla_offsets.proofs.SegmentRows.{buffer_part, buffer_kept, codes_to, codes_more}
 use Rattle.cla_offsets.proofs.rows.OffsetRows.codes_between.Goals as goal
@@ -6,7 +6,8 @@ use Rattle.cla_offsets.proofs.rows.OffsetRows.codes_between.Goals as goal
 pub decode-requires-clause-rows : goal.decode-requires-clause-rows
 decode-requires-clause-rows c =
     let are = rw c.self.view_is at c.self.invariant in
-    buffer_part c.args.self.now.codes c.loop-s.s c.loop-s.buffer c.min.result c.loop-s.invariant.room (omega (arith, c.min.ensures, are.count))
+    buffer_part c.args.self.now.codes c.loop-s.s c.loop-s.buffer c.min.result
+    c.loop-s.invariant.room (omega (arith, c.min.ensures, are.count))
 
 pub loop-s-preserved : goal.loop-s-preserved
 loop-s-preserved c =
@@ -23,6 +24,7 @@ loop-s-preserved c =
       codes =
           c.in_ok-push_part.ensures ∙ ap (λ (xs : List ℕ). xs ++ part c.decode.new.into) c.loop-s.invariant.codes
           ∙ ap (λ (xs : List ℕ). codes_to codes c.args.a c.args.b s ++ part xs) c.decode.ensures
-          ∙ codes_more codes c.args.a c.args.b s begin end c.requires.some (omega (arith, c.loop-s-test.true, c.segment_count-s-end.ensures))
+          ∙ codes_more codes c.args.a c.args.b s begin end c.requires.some
+          (omega (arith, c.loop-s-test.true, c.segment_count-s-end.ensures))
           (omega (arith, c.loop-s.auto.s)) (ap (λ (x : ℕ). x - first) c.max.ensures) (ap (λ (x : ℕ). x - first) c.min-in-loop-s.ensures);
     }

@@ -1,11 +1,10 @@
 use Rattle.std.proofs.Common.{◌≡◌, ◌<◌, ℕ, length}
 use Rattle.cla_group.specs.Groups.{code_of}
-use Rattle.cla_offsets.specs.Segments.{segment_of}
-use Rattle.cla_offsets.proofs.ToldCodes.{code_below}
+use Rattle.cla_offsets.specs.Segments.{list_of, code_by}
 use Rattle.cla_offsets.proofs.rows.OffsetRows.decode.Given as goal
 
 -- the rows of the codes before code k have theirs
 abbrev pub invariant-loop-k : goal.invariant-loop-k
 invariant-loop-k l = record {
-  given : (j : ℕ) → j < length l.into → code_of l.into j ≡ code_below (segment_of l.self.codes l.s) l.self.rest l.k j;
+  given : (j : ℕ) → j < length l.into → code_of l.into j ≡ code_by l.self.rest (list_of l.self l.s) l.k j;
 }

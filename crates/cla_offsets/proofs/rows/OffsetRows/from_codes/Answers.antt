@@ -1,5 +1,4 @@
-use Rattle.std.proofs.Common.{◌≡◌, ◌<◌, ◌≤◌, ◌+◌, ◌*◌, ℕ, List, refl, length, ap, subst, arith}
-use Rattle.cla_group.specs.Groups.{code_of}
+use Rattle.std.proofs.Common.{◌≡◌, ◌+◌, ◌*◌, ℕ, List, refl, length, ap, subst, arith}
 use Rattle.cla_offsets.specs.Rows.{OffsetsOf}
 use Rattle.cla_offsets.specs.Segments.{segment_rows, segments_of, AreLists}
 use Rattle.cla_offsets.proofs.SegmentRows.{segment_row, segment_size}

@@ -1,4 +1,4 @@
-use Rattle.std.proofs.Common.{◌≡◌, ◌<◌, ◌+◌, ◌*◌, ◌∙◌, ℕ, length, map, drop, ap, subst, sym, arith}
+use Rattle.std.proofs.Common.{◌≡◌, ◌+◌, ◌*◌, ◌∙◌, ℕ, length, map, ap, subst, sym, arith}
 use Rattle.std.specs.Prelude.{min}
 use Rattle.cla_offsets.specs.Segments.{segment_rows}
 use Rattle.cla_offsets.specs.Walks.{AreCodesFrom, AreGathered}
@@ -8,7 +8,8 @@ use Rattle.cla_offsets.proofs.rows.OffsetRows.gather.Goals as goal
 pub decode-requires-clause-rows : goal.decode-requires-clause-rows
 decode-requires-clause-rows g c =
     let are = rw c.self.view_is at c.self.invariant in
-    buffer_part c.args.self.now.codes c.loop-s.s c.loop-s.codes c.min.result c.loop-s.invariant.room (omega (arith, c.min.ensures, are.count))
+    buffer_part c.args.self.now.codes c.loop-s.s c.loop-s.codes c.min.result
+    c.loop-s.invariant.room (omega (arith, c.min.ensures, are.count))
 
 pub gather_codes-requires-clause-tuples : goal.gather_codes-requires-clause-tuples
 gather_codes-requires-clause-tuples g c =
@@ -38,8 +39,9 @@ loop-s-preserved g c =
     let next : s * segment_rows + length c.decode.new.into ≡ min ((s + 1) * segment_rows) (length codes) =
     omega (arith, size, here) in
     let from : AreCodesFrom (s * segment_rows) c.decode.new.into codes = rw c.decode.ensures (λ j row. sym (segment_row codes s j row).2) in
+    let sums = c.gather_codes.ensures codes from (rw here at c.loop-s.invariant.so_far) in
     record {
       room = buffer_kept codes s c.loop-s.codes c.decode.new.into c.min.result
           c.loop-s.invariant.room (omega (arith, c.min.ensures, are.count)) c.decode.ensures;
-      so_far = subst (λ (n : ℕ). AreGathered codes items n c.gather_codes.new.into) next (c.gather_codes.ensures codes from (rw here at c.loop-s.invariant.so_far));
+      so_far = subst (λ (n : ℕ). AreGathered codes items n c.gather_codes.new.into) next sums;
     }

@@ -40,7 +40,8 @@ loop-k-preserved g c =
     let part : c.index-parts-k.result ≡ at parts k = c.index-parts-k.is ∙ get_or_default parts k c.index-parts-k.result (pos 0) there in
     let walk = subst (λ (z : ℤ). IsListJoined g.J.Join.join first list z c.loop-k.into c.join_list.new.into) part c.join_list.ensures in
     let so_far = c.loop-k.invariant.joined in
-    record { joined = list_joined g.J.Join.join first (segment_of v.codes c.args.s) v.rest k list parts _ _ _ c.list.ensures c.requires.rest so_far walk }
+    let segment = segment_of v.codes c.args.s in
+    record { joined = list_joined g.J.Join.join first segment v.rest k list parts _ _ _ c.list.ensures c.requires.rest so_far walk }
 
 pub returns : goal.returns
 returns g c =

@@ -1,4 +1,4 @@
-use Rattle.std.proofs.Common.{◌≡◌, ◌≤◌, ◌+◌, length, ap, sym, arith}
+use Rattle.std.proofs.Common.{◌+◌, length, ap, sym, arith}
 use Rattle.cla_offsets.specs.Segments.{segments_of}
 use Rattle.cla_offsets.proofs.SegmentRows.{segment_there}
 use Rattle.cla_offsets.proofs.ListPlaces.{lists_few, list_end, begin_within, list_there}
@@ -35,4 +35,4 @@ returns c =
     let are = rw c.self.view_is at c.self.invariant in
     let there = segment_there r.rows c.args.s (rw (sym are.count) at c.requires.segment) in
     rw (c.deref.ensures.value, are.lists.offsets, c.begin.ensures, c.begin-2.ensures)
-        (list_there v (segments_of r.rows) c.args.s c.args.k there c.requires.tuple)
+    (list_there v (segments_of r.rows) c.args.s c.args.k there c.requires.tuple)

@@ -1,5 +1,5 @@
 use Rattle.std.proofs.Common.{◌∙◌, length, sym, arith}
-use Rattle.cla_runs.proofs.RunBounds.{IsAtRun, ends_rise, at_run, code_in_run, code_in_gap}
+use Rattle.cla_runs.proofs.RunBounds.{IsAtRun, at_run, code_in_run, code_in_gap}
 use Rattle.cla_runs.proofs.run_rows.RunRows.code_at.Goals.{After-ended_by-n}
 use Rattle.cla_runs.proofs.run_rows.RunRows.code_at.Goals as goal
 
@@ -8,9 +8,7 @@ found : (c : After-ended_by-n) → IsAtRun c.self.inside.runs.ends.items (length
 found c = rw c.ended_by-n.ensures (at_run c.self.invariant.runs c.args.i)
 
 pub ended_by-n-requires : goal.ended_by-n-requires
-ended_by-n-requires c =
-    let are = c.self.invariant.runs in
-    record { first = are.first; some = omega (arith, are.an_end_each); rising = λ m n order there. ends_rise are m n order (omega (arith, there, are.an_end_each)) }
+ended_by-n-requires c = (_, _, _, c.self.invariant.runs)
 
 pub begin-requires : goal.begin-requires
 begin-requires c = omega (arith, (found c).there, c.self.invariant.runs.a_begin_each)
@@ -25,7 +23,8 @@ pub returns-then-begin-i : goal.returns-then-begin-i
 returns-then-begin-i c =
     let kept = rw c.self.view_is at c.self.invariant in
     let is = found (goal.at.returns-then-begin-i c).After-ended_by-n in
-    c.key.ensures ∙ sym (code_in_run kept.runs c.args.i c.ended_by-n.result c.requires is (omega (arith, c.if-begin-i.true, c.begin.ensures))).1
+    c.key.ensures ∙ sym (code_in_run kept.runs c.args.i c.ended_by-n.result c.requires is
+    (omega (arith, c.if-begin-i.true, c.begin.ensures))).1
 
 pub returns-else-begin-i : goal.returns-else-begin-i
 returns-else-begin-i c =

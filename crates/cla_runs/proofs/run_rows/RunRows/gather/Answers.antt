@@ -14,7 +14,8 @@ stretch g c =
     let s : c.loop-s.s < 2 * length c.self.inside.runs.keys.items + 1 = omega (arith, c.loop-s-test.true, c.len.ensures) in
     rw (c.code-k.ensures, c.rest.ensures, c.edge.ensures, c.edge-in-loop-s.ensures) (stretch_is kept.runs (omega arith) c.loop-s.s s)
 
-so_far : (g : Over) (c : After-edge-in-loop-s g) → AreGatheredTo c.edge.result c.args.self.now.codes (map g.N.Number.value c.args.rows.now) c.loop-s.into
+so_far : (g : Over) (c : After-edge-in-loop-s g) → AreGatheredTo c.edge.result c.args.self.now.codes
+    (map g.N.Number.value c.args.rows.now) c.loop-s.into
 so_far g c = rw c.edge.ensures c.loop-s.invariant
 
 pub gather_between-requires : goal.gather_between-requires
@@ -40,7 +41,10 @@ gather_between-requires g c =
 pub loop-s-init : goal.loop-s-init
 loop-s-init g c =
     let kept = rw c.self.view_is at c.self.invariant in
-    rw kept.runs.first (record { sum = λ k there. c.fill.ensures.clones k (pos 0) (omega (arith, there, c.fill.ensures.len)) refl ∙ c.zero.ensures })
+    rw kept.runs.first (record {
+      sum = λ k there. c.fill.ensures.clones k (pos 0) (omega (arith, there, c.fill.ensures.len)) refl
+          ∙ c.zero.ensures;
+    })
 
 pub loop-s-preserved : goal.loop-s-preserved
 loop-s-preserved g c =
@@ -51,6 +55,8 @@ pub returns : goal.returns
 returns g c =
     let kept = rw c.self.view_is at c.self.invariant in
     let items = map g.N.Number.value c.args.rows.now in
-    let end : c.loop-s.s ≡ 2 * length c.self.inside.runs.keys.items + 1 = omega (arith, c.loop-s-test.false, c.loop-s.auto.s-end, c.len.ensures) in
+    let end : c.loop-s.s ≡ 2 * length c.self.inside.runs.keys.items + 1 =
+    omega (arith, c.loop-s-test.false, c.loop-s.auto.s-end, c.len.ensures) in
     let all = ap (edge c.self.inside.runs.begins.items c.self.inside.runs.ends.items) end ∙ edge_last kept.runs in
-    λ k there. c.loop-s.invariant.sum k (omega (arith, there, c.loop-s.auto.into, c.fill.ensures.len)) ∙ ap (gathered_to c.args.self.now.codes items k) all
+    λ k there. c.loop-s.invariant.sum k (omega (arith, there, c.loop-s.auto.into, c.fill.ensures.len))
+    ∙ ap (gathered_to c.args.self.now.codes items k) all

@@ -41,6 +41,7 @@ loop-s-preserved g c =
 pub returns : goal.returns
 returns g c =
     let kept = rw c.self.view_is at c.self.invariant in
-    let end : c.loop-s.s ≡ 2 * length c.self.inside.runs.keys.items + 1 = omega (arith, c.loop-s-test.false, c.loop-s.auto.s-end, c.len.ensures) in
+    let end : c.loop-s.s ≡ 2 * length c.self.inside.runs.keys.items + 1 =
+    omega (arith, c.loop-s-test.false, c.loop-s.auto.s-end, c.len.ensures) in
     let all = ap (edge c.self.inside.runs.begins.items c.self.inside.runs.ends.items) end ∙ edge_last kept.runs in
     λ i row. c.loop-s.invariant.done i (omega (arith, row, all))

@@ -22,7 +22,8 @@ pub overflow_sub-result : goal.overflow_sub-result
 overflow_sub-result c =
     let kept = rw c.self.view_is at c.self.invariant in
     let run = there (goal.at.overflow_sub-result c).After-begin-begin in
-    rw (c.begin-begin.ensures, c.number_of-number.ensures.number) (previous_within kept.runs c.args.k c.requires.listed c.args.n c.previous_end.result run c.previous_end.ensures.first c.previous_end.ensures.later)
+    rw (c.begin-begin.ensures, c.number_of-number.ensures.number)
+    (previous_within kept.runs c.args.k c.requires.listed c.args.n c.previous_end.result run c.previous_end.ensures.first c.previous_end.ensures.later)
 
 pub returns : goal.returns
 returns c =

@@ -12,7 +12,8 @@ cut g c = c.deref-2.ensures.value ∙ rw c.deref.ensures at c.in_ok-codes.ensure
 pub of_rows-requires : goal.of_rows-requires
 of_rows-requires g c =
     let p = c.args.self.now in
-    rw c.deref-3.ensures.value (c.in_ok-codes-2.ensures.group c.args.a c.args.b p.rows.value.codes c.requires.some c.requires.within (cut g c) p.is)
+    rw c.deref-3.ensures.value (c.in_ok-codes-2.ensures.group c.args.a c.args.b p.rows.value.codes c.requires.some c.requires.within
+    (cut g c) p.is)
 
 pub returns-clause-columns : goal.returns-clause-columns
 returns-clause-columns g c = rw c.in_ok-of_rows.ensures.dictionary c.in_ok-codes-2.ensures.width
@@ -25,7 +26,8 @@ returns-clause-rows g c =
     rw (c.in_ok-of_rows.ensures.codes, c.in_ok-of_rows.ensures.dictionary, c.deref-3.ensures.value) rows
 
 pub returns-clause-numbered : goal.returns-clause-numbered
-returns-clause-numbered g c = rw (c.in_ok-of_rows.ensures.codes, c.in_ok-of_rows.ensures.dictionary, c.deref-3.ensures.value) c.in_ok-codes-2.ensures.numbered
+returns-clause-numbered g c = rw
+    (c.in_ok-of_rows.ensures.codes, c.in_ok-of_rows.ensures.dictionary, c.deref-3.ensures.value) c.in_ok-codes-2.ensures.numbered
 
 pub returns-clause-rest : goal.returns-clause-rest
 returns-clause-rest g c =

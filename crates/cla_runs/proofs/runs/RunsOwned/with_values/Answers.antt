@@ -6,9 +6,9 @@ use Rattle.cla_runs.proofs.runs.RunsOwned.with_values.Goals as goal
 pub invariant_of-result : goal.invariant_of-result
 invariant_of-result g c =
     let p = c.args.self.now in
-    let are = rw c.with_values.ensures.value at c.with_values.ensures.are in
+    let are = rw c.with_values-dictionary.ensures.value at c.with_values-dictionary.ensures.are in
     let count = tuples_count p.dictionary.width (length p.dictionary.tuples) (map g.N.Number.value c.args.values.items) in
-    rw (c.in_ok-clone.ensures.cases, c.with_values.ensures.value) (record {
+    rw (c.in_ok-rows.ensures.cases, c.with_values-dictionary.ensures.value) (record {
       is = group_valued _ _ _ _ _ p.is are count;
       all = p.all ∙ sym count;
     })
