@@ -1,7 +1,7 @@
 -- Columns of parts, and the entries in them.
 use Rattle.std.proofs.Common.{◌≡◌, true, false, ℕ, ℤ, zero, suc, ◌<◌, ◌≤◌, List, [], ◌∷◌, length, cond, eqb, get_or, Ok, Err, refl, ap, sym, ◌∙◌, arith, inl, inr}
 use Rattle.std.proofs.lemmas.Bool.{cases_eq, cases_lt, eq-eqb, ne_eqb, ltb-false}
-use Rattle.std.proofs.lemmas.List.{get_or-map, length-map}
+use Rattle.std.proofs.lemmas.List.{get_or_default, get_or-map, length-map}
 use Rattle.std.proofs.lemmas.List.Sums.{position_or_len_is, sum_by-append}
 use Rattle.std.specs.Ordering.{nat_cmp}
 use Rattle.std.specs.List.Sorted.{IsBinarySearchResult}
@@ -15,6 +15,10 @@ use Rattle.cla_coded.specs.Layouts.{LayoutPart, no_part, part_at, all_columns, h
 -- columns that rise
 abbrev pub Rise : List ℕ → Type 0
 Rise columns = (c d : ℕ) → c < d → d < length columns → code_of columns c < code_of columns d
+
+-- the column that is read in a place
+pub column_read : (columns : List ℕ) (c j : ℕ) → j ≡ get_or columns c j → c < length columns → j ≡ code_of columns c
+column_read columns c j is there = is ∙ get_or_default columns c j 0 there
 
 -- a column's place among columns that rise
 pub place_of_column : (columns : List ℕ) (c j : ℕ) → Rise columns → c < length columns → code_of columns c ≡ j → first_row_of columns j ≡ c

@@ -2,10 +2,11 @@
 use Rattle.std.specs.Prelude.{◌≡◌, ℕ, ℤ, pos, ◌*◌, ◌<◌, ◌≤◌, ◌+ℤ◌, ◌↔◌, List, [], ◌∷◌, length, take, Bool, true, Option, None, slice_index_or}
 use Rattle.cla_spec.specs.Numbers.{sum_to}
 use Rattle.cla_spec.specs.Matrix.{Matrix, IsShaped, IsWellMade, sum_of_entries}
+use Rattle.cla_num.specs.declared.fault.What.{What}
 use Rattle.cla_group.specs.Groups.{cell_of, value_of, first_row_of}
 use Rattle.cla_group.specs.Laws.{AreCodesOf}
 use Rattle.cla_coded.specs.Layouts.{LayoutPart, Layout, StandsFor, IsWhole, column_at, part_at, entry_in, matrix_in, transposed, loose_layout}
-use Rattle.cla_coded.specs.Firsts.{IsFirstOf, least_of, IsExtremeEntry, IsReached}
+use Rattle.cla_coded.specs.Firsts.{IsFirstOf, least_of, IsFirstFault, earliest_fault, IsExtremeEntry, IsReached}
 use Rattle.cla_coded.specs.Values.{values_of, different_codes}
 
 -- a value of each part, added up
@@ -61,6 +62,23 @@ FirstPlacesByParts = (bits : ℕ) (layout : Layout) (place : ℕ → ℕ → ℕ
 abbrev pub FirstPlacesTranspose : Type 0
 FirstPlacesTranspose = (rows cols : ℕ) (place : ℕ → ℕ → ℕ) (fails : ℕ → ℕ → Bool) (first : Option ℕ) →
     IsFirstOf rows cols place (λ i j. fails i j ≡ true) first → IsFirstOf cols rows (λ j i. place i j) (λ j i. fails i j ≡ true) first
+
+-- the first fault of a part: the place of a value is where its tuple's first row has its column
+abbrev pub IsFirstFaultOfPart : {W : Type 0} → (ℕ → ℕ → W → ℕ) → (ℕ → ℤ → Option W) → LayoutPart → Option (ℕ × W) → Type 0
+IsFirstFaultOfPart place fault part first = IsFirstFault (length part.tuples) (length part.columns)
+    (λ k c w. place (first_row_of part.codes k) (column_at part.columns c) w) (λ k c. fault (column_at part.columns c) (value_of part.tuples k c)) first
+
+-- the first fault is the first of those of the parts, and there is none where no part has one
+abbrev pub FaultsByParts : Type 0
+FaultsByParts = (bits : ℕ) (layout : Layout) (place : ℕ → ℕ → What → ℕ) (fault : ℕ → ℤ → Option What) (firsts : List (Option (ℕ × What))) → IsWhole bits layout →
+    ((i r j : ℕ) (w : What) → i ≤ r → place i j w ≤ place r j w) → length firsts ≡ length layout.parts →
+    ((q : ℕ) → q < length layout.parts → IsFirstFaultOfPart place fault (part_at layout.parts q) (slice_index_or firsts q None)) →
+    IsFirstFault layout.rows layout.cols place (λ i j. fault j (entry_in layout.parts i j)) (earliest_fault firsts)
+
+-- rows and columns exchanged
+abbrev pub FaultsTranspose : Type 0
+FaultsTranspose = (rows cols : ℕ) (place : ℕ → ℕ → What → ℕ) (fault : ℕ → ℕ → Option What) (first : Option (ℕ × What)) →
+    IsFirstFault rows cols place fault first → IsFirstFault cols rows (λ j i. place i j) (λ j i. fault i j) first
 
 -- v is a value of a tuple of a part, and stands before all of them: f gives the value of a column and an entry
 pub record IsExtremeOfParts (Before : ℤ → ℤ → Type 0) (f : ℕ → ℤ → ℤ) (parts : List LayoutPart) (v : ℤ) : Type 0 where
