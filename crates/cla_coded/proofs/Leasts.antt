@@ -9,7 +9,8 @@ IsLeast {W} F None = (p : ℕ) (w : W) → F p w → ⊥
 IsLeast {W} F (Some first) = F first.0 first.1 × ((p : ℕ) (w : W) → F p w → first.0 ≤ p)
 
 -- of two sets
-least_either : {W : Type 0} (F G H : ℕ → W → Type 0) (first other : Option (ℕ × W)) → ((p : ℕ) (w : W) → F p w → H p w) → ((p : ℕ) (w : W) → G p w → H p w)
+least_either : {W : Type 0} (F G H : ℕ → W → Type 0) (first other : Option (ℕ × W)) → ((p : ℕ) (w : W) → F p w → H p w)
+    → ((p : ℕ) (w : W) → G p w → H p w)
     → ((p : ℕ) (w : W) → H p w → F p w ⊎ G p w) → IsLeast F first → IsLeast G other → IsLeast H (earlier_fault first other)
 least_either F G H None None from_f from_g split none neither = λ p w at. elim (split p w at) [
   | inl f ↦ none p w f
@@ -35,19 +36,23 @@ least_either F G H (Some a) (Some b) from_f from_g split least also = elim (case
 ]
 
 -- of the same set, told in other words
-pub least_same : {W : Type 0} (F G : ℕ → W → Type 0) (first : Option (ℕ × W)) → ((p : ℕ) (w : W) → F p w → G p w) → ((p : ℕ) (w : W) → G p w → (q : ℕ) × F q w × (q ≤ p)) → IsLeast F first → IsLeast G first
+pub least_same : {W : Type 0} (F G : ℕ → W → Type 0) (first : Option (ℕ × W)) → ((p : ℕ) (w : W) → F p w → G p w)
+    → ((p : ℕ) (w : W) → G p w → (q : ℕ) × F q w × (q ≤ p)) → IsLeast F first → IsLeast G first
 least_same F G None there back none = λ p w at. (let f = back p w at in none f.0 w f.1)
-least_same F G (Some a) there back least = (there a.0 a.1 least.0, λ p w at. (let f = back p w at in let le = least.1 f.0 w f.1 in omega (arith, le, f.2)))
+least_same F G (Some a) there back least = (there a.0 a.1 least.0, λ p w at.
+    (let f = back p w at in let le = least.1 f.0 w f.1 in omega (arith, le, f.2)))
 
 -- of many sets
 abbrev pub OfAny : {X W : Type 0} → (X → ℕ → W → Type 0) → X → List X → ℕ → W → Type 0
 OfAny F d xs p w = (q : ℕ) × (q < length xs) × F (get_or xs q d) p w
 
-one_of : {X W : Type 0} (F : X → ℕ → W → Type 0) (d x : X) (xs : List X) (p : ℕ) (w : W) → OfAny F d (x ∷ xs) p w → F x p w ⊎ OfAny F d xs p w
+one_of : {X W : Type 0} (F : X → ℕ → W → Type 0) (d x : X) (xs : List X) (p : ℕ) (w : W) → OfAny F d (x ∷ xs) p w
+    → F x p w ⊎ OfAny F d xs p w
 one_of F d x xs p w (zero, there, at) = inl at
 one_of F d x xs p w (suc q, there, at) = inr (q, omega (arith, there), at)
 
-pub least_of_all : {X W : Type 0} (F : X → ℕ → W → Type 0) (d : X) (xs : List X) (firsts : List (Option (ℕ × W))) → length firsts ≡ length xs
+pub least_of_all : {X W : Type 0} (F : X → ℕ → W → Type 0) (d : X) (xs : List X) (firsts : List (Option (ℕ × W))) → length firsts
+    ≡ length xs
     → ((q : ℕ) → q < length xs → IsLeast (F (get_or xs q d)) (get_or firsts q None)) → IsLeast (OfAny F d xs) (earliest_fault firsts)
 least_of_all F d [] [] same each = λ p w at. absurd (omega (arith, at.1))
 least_of_all F d [] (first ∷ firsts) same each = absurd (omega (arith, same))

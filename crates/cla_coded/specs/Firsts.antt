@@ -21,7 +21,8 @@ least_of [] = None
 least_of (first ∷ firsts) = lesser first (least_of firsts)
 
 -- what is wrong first in a result of this shape: no place of anything wrong is before p
-pub record IsFaultAt {W : Type 0} (rows cols : ℕ) (place : ℕ → ℕ → W → ℕ) (fault : ℕ → ℕ → Option W) (p : ℕ) (what : W) : Type 0 where
+pub record IsFaultAt {W : Type 0} (rows cols : ℕ) (place : ℕ → ℕ → W → ℕ) (fault : ℕ → ℕ → Option W) (p : ℕ)
+    (what : W) : Type 0 where
   pub reached : (i : ℕ) × (j : ℕ) × (i < rows) × (j < cols) × (place i j what ≡ p) × (fault i j ≡ Some what)
   pub least : (i j : ℕ) (w : W) → i < rows → j < cols → fault i j ≡ Some w → p ≤ place i j w
 
@@ -47,4 +48,5 @@ pub record IsExtremeEntry (Before : ℤ → ℤ → Type 0) (rows cols : ℕ) (e
 
 -- a tuple of the part has this value, of its column and entry
 abbrev pub IsReached : (ℕ → ℤ → ℤ) → LayoutPart → ℤ → Type 0
-IsReached f part v = (k : ℕ) × (c : ℕ) × (k < length part.tuples) × (c < length part.columns) × (f (column_at part.columns c) (value_of part.tuples k c) ≡ v)
+IsReached f part v = (k : ℕ) × (c : ℕ) × (k < length part.tuples) × (c < length part.columns)
+    × (f (column_at part.columns c) (value_of part.tuples k c) ≡ v)
