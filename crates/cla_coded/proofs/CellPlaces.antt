@@ -9,7 +9,7 @@ use Rattle.cla_group.specs.Groups.{at, code_of, first_row_of}
 use Rattle.cla_group.proofs.Regroup.{code_of_first_row}
 use Rattle.cla_coded.specs.declared.dense.Shape.{Shape}
 use Rattle.cla_coded.specs.Layouts.{LayoutPart, IsPart, column_at, index_of, has_column}
-use Rattle.cla_coded.specs.Places.{place_in, IsRowWritten, AreRowsWritten, IsPartWritten}
+use Rattle.cla_coded.specs.Places.{place_in, IsRowWritten, AreRowsWritten}
 use Rattle.cla_coded.proofs.Columns.{Rise, place_of_column}
 use Rattle.cla_coded.proofs.OwnRows.{own_row}
 use Rattle.cla_coded.proofs.Matrices.{column_there}
@@ -46,12 +46,12 @@ not_here r n other = elim (cases_lt r n) [
 abbrev pub RowWrittenTo : Shape → List ℕ → (ℕ → ℤ) → ℕ → ℕ → List ℤ → List ℤ → Type 0
 RowWrittenTo shape columns tuple i n first now = (r j : ℕ) → r < shape.rows → j < shape.cols →
     at now (place_in shape r j) ≡ cond (eqb r i && ltb (index_of columns j) n) (tuple (index_of columns j))
-        (at first (place_in shape r j))
+    (at first (place_in shape r j))
 
 pub column_step : (shape : Shape) (columns : List ℕ) (tuple : ℕ → ℤ) (i c p : ℕ) (v : ℤ) (first now : List ℤ) → Rise columns
     → c < length columns
     → i < shape.rows → column_at columns c < shape.cols → p ≡ place_in shape i (column_at columns c) → v ≡ tuple c → length now
-        ≡ shape.rows * shape.cols
+    ≡ shape.rows * shape.cols
     → RowWrittenTo shape columns tuple i c first now → RowWrittenTo shape columns tuple i (c + 1) first (set now p v)
 column_step shape columns tuple i c p v first now rising there row col place is count written r j row' col' =
     let distinct = place_distinct shape r i j (column_at columns c) row' row col' col in
@@ -68,10 +68,10 @@ column_step shape columns tuple i c p v first now rising there row col place is 
         | inr other ↦
             let elsewhere : place_in shape r j ≡ p → ⊥ = λ same. other ((distinct (same ∙ place)).1) in
             let later : index_of columns j ≡ c → ⊥ = λ place. other
-                (sym (column_there columns j (omega (arith, place, there))) ∙ ap (column_at columns) place) in
+            (sym (column_there columns j (omega (arith, place, there))) ∙ ap (column_at columns) place) in
             get_or-set_other now p (place_in shape r j) v (pos 0) elsewhere ∙ written r j row' col'
             ∙ ap (λ (b : Bool). cond (eqb r i && b) (tuple (index_of columns j)) (at first (place_in shape r j)))
-                (not_here (index_of columns j) c later)
+            (not_here (index_of columns j) c later)
       ]
     ]
 
@@ -99,12 +99,12 @@ pub tuple_step : (bits : ℕ) (shape : Shape) (part : LayoutPart) (k i : ℕ) (f
     → length part.tuples ≡ shape.rows → k < length part.tuples
     → i ≡ first_row_of part.codes k → IsRowWritten shape part k i now next
     → AreRowsWritten (λ r. ltb (code_of part.codes r) k) shape part first now
-        → AreRowsWritten (λ r. ltb (code_of part.codes r) (k + 1)) shape part first next
+    → AreRowsWritten (λ r. ltb (code_of part.codes r) (k + 1)) shape part first next
 tuple_step bits shape part k i first now next is own there first_row written so_far =
     let codes = part.codes in
     let code : code_of codes i ≡ k = ap (code_of codes) first_row ∙ code_of_first_row codes k (is.group.used k there) in
     row_step (λ r. ltb (code_of codes r) k) (λ r. ltb (code_of codes r) (k + 1)) shape part k i first now next (sym code)
-        (lt-ltb (code_of codes i) (k + 1) (omega (arith, code)))
+    (lt-ltb (code_of codes i) (k + 1) (omega (arith, code)))
     (λ r row other. sym (not_here (code_of codes r) k (λ same. other
     (sym (own_row codes (length part.tuples) r is.group.used (own ∙ sym is.a_code_each) (rw is.a_code_each row) is.group.in_tuples)
-        ∙ ap (first_row_of codes) same ∙ sym first_row)))) written so_far
+    ∙ ap (first_row_of codes) same ∙ sym first_row)))) written so_far

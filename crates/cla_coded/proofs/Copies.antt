@@ -87,7 +87,7 @@ loose_whole bits value in_range m cells same shaped =
 pub one_plain_part : (m : Matrix) (rows cols : ℕ) (parts : List LayoutPart) (columns codes : List ℕ) (tuples : List (List ℤ)) → rows
     ≡ m.rows → cols ≡ m.cols
     → parts ≡ record { columns = columns; codes = codes; tuples = tuples } ∷ [] → columns ≡ range_with_len 0 m.cols → codes
-        ≡ range_with_len 0 m.rows → tuples ≡ tuples_of m.cols m.rows m.cells
+    ≡ range_with_len 0 m.rows → tuples ≡ tuples_of m.cols m.rows m.cells
     → record { rows = rows; cols = cols; parts = parts } ≡ loose_layout m
 one_plain_part m rows cols parts columns codes tuples rows_are cols_are parts_are columns_are codes_are tuples_are =
     rw (rows_are, cols_are, parts_are, columns_are, codes_are, tuples_are) refl
@@ -105,9 +105,9 @@ loose_stands m shaped =
     let columns = range_with_len 0 m.cols in
     let tuples = tuples_of m.cols m.rows m.cells in
     let cells : m.cells ≡ row_by_row m.rows m.cols (entry_in (loose_layout m).parts) =
-        same_matrix m (entry_in (loose_layout m).parts) shaped (λ i j row col.
+    same_matrix m (entry_in (loose_layout m).parts) shaped (λ i j row col.
     (let index : index_of columns j ≡ j = first_row_is m.cols j col in
     let there : index_of columns j < length columns = omega (arith, index, col, rows_count m.cols) in
     sym (rw (lt-ltb (index_of columns j) (length columns) there, index, code_is m.rows i row)
-        (tuple_value m.cols m.rows m.cells i j row col)))) in
+    (tuple_value m.cols m.rows m.cells i j row col)))) in
     ap (λ (cs : List ℤ). record { rows = m.rows; cols = m.cols; cells = cs }) (sym cells)

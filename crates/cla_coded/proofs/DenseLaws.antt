@@ -49,7 +49,7 @@ all_written bits shape parts n cells whole all written i j row col =
 pub dense_shape : {X : Type 0} (bits : ℕ) (shape : Shape) (parts : List LayoutPart) (cells : List X) (r c : ℕ)
     → IsWhole bits (layout_with shape.rows shape.cols parts)
     → length cells ≡ shape.rows * shape.cols → r ≡ cond shape.flipped shape.cols shape.rows → c ≡ cond shape.flipped shape.rows shape.cols
-        → IsShaped r c cells
+    → IsShaped r c cells
 dense_shape bits shape parts cells r c whole count rows cols = elim (cases_Bool shape.flipped) [
   | inl flipped ↦
       let turned = mul_comm shape.rows shape.cols in
@@ -73,7 +73,7 @@ dense_is bits shape parts cells r c whole count written rows cols =
           let c_is : c ≡ shape.rows = rw flipped at cols in
           let m : Matrix = record { rows = shape.cols; cols = shape.rows; cells = cells } in
           let same : cells ≡ row_by_row shape.cols shape.rows (λ j i. entry (matrix_in base) i j) =
-              same_matrix m (λ j i. entry (matrix_in base) i j) (rw (r_is, c_is) at shaped)
+          same_matrix m (λ j i. entry (matrix_in base) i j) (rw (r_is, c_is) at shaped)
           (λ j i col row. (rw flipped at (written i j row col)) ∙ sym (entry_matrix_in base i j row col)) in
           rw (r_is, c_is, flipped) (ap (λ (cs : List ℤ). record { rows = shape.cols; cols = shape.rows; cells = cs }) same)
       | inr plain ↦
@@ -81,6 +81,6 @@ dense_is bits shape parts cells r c whole count written rows cols =
           let c_is : c ≡ shape.cols = rw plain at cols in
           let m : Matrix = record { rows = shape.rows; cols = shape.cols; cells = cells } in
           let same : cells ≡ row_by_row shape.rows shape.cols (entry_in parts) =
-              same_matrix m (entry_in parts) (rw (r_is, c_is) at shaped) (λ i j row col. rw plain at (written i j row col)) in
+          same_matrix m (entry_in parts) (rw (r_is, c_is) at shaped) (λ i j row col. rw plain at (written i j row col)) in
           rw (r_is, c_is, plain) (ap (λ (cs : List ℤ). record { rows = shape.rows; cols = shape.cols; cells = cs }) same)
     ]

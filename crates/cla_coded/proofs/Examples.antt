@@ -1,5 +1,5 @@
 -- Worked examples of the definitions: rows (1, 7, 2), (0, 7, 0), (0, 0, 0) and (1, 0, 2) in two parts.
-use Rattle.std.proofs.Common.{◌≡◌, ℕ, ℤ, pos, zero, suc, ◌<◌, List, [], ◌∷◌, length, slice_index_or, refl, true, arith}
+use Rattle.std.proofs.Common.{◌≡◌, ℕ, pos, zero, suc, ◌<◌, [], ◌∷◌, length, slice_index_or, refl, true, arith}
 use Rattle.cla_spec.specs.Numbers.{InRange}
 use Rattle.cla_group.specs.declared.kind.Kind.TheVariants.{Codes, Runs}
 use Rattle.cla_group.specs.Groups.{code_of, value_of, occurrences_of, IsGroup}
@@ -115,8 +115,12 @@ both_is_canonical = record {
 
 -- two equal tuples are not, whichever rows they have
 abbrev twins : Layout
-twins = record { rows = 2; cols = 1; parts = record { columns = 0 ∷ []; codes = 0 ∷ 1 ∷ []; tuples = (pos 7 ∷ []) ∷ (pos 7 ∷ []) ∷ [] } ∷
-    [] }
+twins = record {
+  rows = 2;
+  cols = 1;
+  parts = record { columns = 0 ∷ []; codes = 0 ∷ 1 ∷ []; tuples = (pos 7 ∷ []) ∷ (pos 7 ∷ []) ∷ [] } ∷
+      [];
+}
 
 pub twins_are_not_canonical : (bits : ℕ) → IsCanonical bits twins (Codes ∷ []) → ⊥
 twins_are_not_canonical bits is =

@@ -16,31 +16,46 @@ least_either F G H None None from_f from_g split none neither = λ p w at. elim 
   | inl f ↦ none p w f
   | inr g ↦ neither p w g
 ]
-least_either F G H None (Some b) from_f from_g split none least = (from_g b.0 b.1 least.0, λ p w at. elim (split p w at) [
-  | inl f ↦ absurd (none p w f)
-  | inr g ↦ least.1 p w g
-])
-least_either F G H (Some a) None from_f from_g split least none = (from_f a.0 a.1 least.0, λ p w at. elim (split p w at) [
-  | inl f ↦ least.1 p w f
-  | inr g ↦ absurd (none p w g)
-])
-least_either F G H (Some a) (Some b) from_f from_g split least also = elim (cases_lt b.0 a.0) [
-  | inl after ↦ rw (lt-leb a.0 b.0 after) (from_g b.0 b.1 also.0, λ p w at. elim (split p w at) [
-    | inl f ↦ (let le = least.1 p w f in omega (arith, le, after))
-    | inr g ↦ also.1 p w g
-  ])
-  | inr before ↦ rw (le-leb a.0 b.0 before) (from_f a.0 a.1 least.0, λ p w at. elim (split p w at) [
+least_either F G H None (Some b) from_f from_g split none least = (
+  from_g b.0 b.1 least.0,
+  λ p w at. elim (split p w at) [
+    | inl f ↦ absurd (none p w f)
+    | inr g ↦ least.1 p w g
+  ],
+)
+least_either F G H (Some a) None from_f from_g split least none = (
+  from_f a.0 a.1 least.0,
+  λ p w at. elim (split p w at) [
     | inl f ↦ least.1 p w f
-    | inr g ↦ (let le = also.1 p w g in omega (arith, le, before))
-  ])
+    | inr g ↦ absurd (none p w g)
+  ],
+)
+least_either F G H (Some a) (Some b) from_f from_g split least also = elim (cases_lt b.0 a.0) [
+  | inl after ↦ rw (lt-leb a.0 b.0 after) (
+    from_g b.0 b.1 also.0,
+    λ p w at. elim (split p w at) [
+      | inl f ↦ (let le = least.1 p w f in omega (arith, le, after))
+      | inr g ↦ also.1 p w g
+    ],
+  )
+  | inr before ↦ rw (le-leb a.0 b.0 before) (
+    from_f a.0 a.1 least.0,
+    λ p w at. elim (split p w at) [
+      | inl f ↦ least.1 p w f
+      | inr g ↦ (let le = also.1 p w g in omega (arith, le, before))
+    ],
+  )
 ]
 
 -- of the same set, told in other words
 pub least_same : {W : Type 0} (F G : ℕ → W → Type 0) (first : Option (ℕ × W)) → ((p : ℕ) (w : W) → F p w → G p w)
     → ((p : ℕ) (w : W) → G p w → (q : ℕ) × F q w × (q ≤ p)) → IsLeast F first → IsLeast G first
 least_same F G None there back none = λ p w at. (let f = back p w at in none f.0 w f.1)
-least_same F G (Some a) there back least = (there a.0 a.1 least.0, λ p w at.
-    (let f = back p w at in let le = least.1 f.0 w f.1 in omega (arith, le, f.2)))
+least_same F G (Some a) there back least = (
+  there a.0 a.1 least.0,
+  λ p w at.
+      (let f = back p w at in let le = least.1 f.0 w f.1 in omega (arith, le, f.2)),
+)
 
 -- of many sets
 abbrev pub OfAny : {X W : Type 0} → (X → ℕ → W → Type 0) → X → List X → ℕ → W → Type 0

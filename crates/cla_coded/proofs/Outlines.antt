@@ -36,10 +36,10 @@ outlined_columns width codes tuples (part ∷ parts) = ap (λ (xs : List ℕ). p
 part_with : (bits rows : ℕ) (columns columns' codes codes' : List ℕ) (width width' : ℕ) (tuples tuples' : List (List ℤ)) → columns'
     ≡ columns → codes' ≡ codes → width' ≡ width → IsGroup bits width codes tuples → IsGroup bits width' codes' tuples'
     → IsPart bits rows (record { columns = columns; codes = codes; tuples = tuples })
-        → IsPart bits rows (record { columns = columns'; codes = codes'; tuples = tuples' })
+    → IsPart bits rows (record { columns = columns'; codes = codes'; tuples = tuples' })
 part_with bits rows columns columns' codes codes' width width' tuples tuples' same_columns same_codes same is is' part =
     let wide : width' ≡ length columns' = same ∙ same_width bits width (length columns) codes tuples is part.group
-        ∙ ap length (sym same_columns) in
+    ∙ ap length (sym same_columns) in
     record {
       rising = rw same_columns part.rising;
       a_code_each = ap length same_codes ∙ part.a_code_each;
@@ -49,15 +49,15 @@ part_with bits rows columns columns' codes codes' width width' tuples tuples' sa
 parts_with : {G H : Type 0} (bits rows : ℕ) (w : G → ℕ) (c : G → List ℕ) (d : G → List (List ℤ)) (w' : H → ℕ) (c' : H → List ℕ)
     (d' : H → List (List ℤ))
     → ((g : G) → IsGroup bits (w g) (c g) (d g)) → ((h : H) → IsGroup bits (w' h) (c' h) (d' h))
-        → (ps : List (Part G)) (qs : List (Part H)) → map (outline w' c') qs ≡ map (outline w c) ps
+    → (ps : List (Part G)) (qs : List (Part H)) → map (outline w' c') qs ≡ map (outline w c) ps
     → ((k : ℕ) → k < length (parts_of c d ps) → IsPart bits rows (part_at (parts_of c d ps) k)) → (k : ℕ) → k < length (parts_of c' d' qs)
-        → IsPart bits rows (part_at (parts_of c' d' qs) k)
+    → IsPart bits rows (part_at (parts_of c' d' qs) k)
 parts_with bits rows w c d w' c' d' is is' ps [] same each k there = absurd (omega (arith, there))
 parts_with bits rows w c d w' c' d' is is' [] (q ∷ qs) same each k there = absurd (cc same)
 parts_with bits rows w c d w' c' d' is is' (p ∷ ps) (q ∷ qs) same each zero there =
     let head : outline w' c' q ≡ outline w c p = cc same in
     part_with bits rows p.columns.items q.columns.items (c p.group) (c' q.group) (w p.group) (w' q.group) (d p.group) (d' q.group)
-        (ap (λ (o : OutlineOf). o.columns) head) (ap (λ (o : OutlineOf). o.codes) head) (ap (λ (o : OutlineOf). o.width) head)
+    (ap (λ (o : OutlineOf). o.columns) head) (ap (λ (o : OutlineOf). o.codes) head) (ap (λ (o : OutlineOf). o.width) head)
     (is p.group) (is' q.group) (each 0 (omega arith))
 parts_with bits rows w c d w' c' d' is is' (p ∷ ps) (q ∷ qs) same each (suc k) there =
     let tail : map (outline w' c') qs ≡ map (outline w c) ps = cc same in
@@ -67,11 +67,11 @@ parts_with bits rows w c d w' c' d' is is' (p ∷ ps) (q ∷ qs) same each (suc 
 pub whole_with : {G H : Type 0} (bits rows cols : ℕ) (w : G → ℕ) (c : G → List ℕ) (d : G → List (List ℤ)) (w' : H → ℕ) (c' : H → List ℕ)
     (d' : H → List (List ℤ))
     → ((g : G) → IsGroup bits (w g) (c g) (d g)) → ((h : H) → IsGroup bits (w' h) (c' h) (d' h))
-        → (ps : List (Part G)) (qs : List (Part H)) → map (outline w' c') qs ≡ map (outline w c) ps
+    → (ps : List (Part G)) (qs : List (Part H)) → map (outline w' c') qs ≡ map (outline w c) ps
     → IsWhole bits (layout_with rows cols (parts_of c d ps)) → IsWhole bits (layout_with rows cols (parts_of c' d' qs))
 whole_with bits rows cols w c d w' c' d' is is' ps qs same whole =
     let columns : all_columns (parts_of c' d' qs) ≡ all_columns (parts_of c d ps) = outlined_columns w' c' d' qs ∙ ap columns_in same
-        ∙ sym (outlined_columns w c d ps) in
+    ∙ sym (outlined_columns w c d ps) in
     record {
       a_row = whole.a_row;
       a_col = whole.a_col;

@@ -1,11 +1,10 @@
 -- First places and extremes over the parts of a layout.
-use Rattle.std.proofs.Common.{◌≡◌, ◌⊎◌, ℕ, ℤ, zero, suc, ◌+◌, ◌<◌, ◌≤◌, ◌↔◌, List, [], ◌∷◌, length, get_or, Option, None, Some, refl, ap, subst, sym, ◌∙◌, arith, inl, inr}
-use Rattle.std.proofs.lemmas.Bool.{cases_lt, ltb-true, le-leb, lt-leb}
-use Rattle.cla_num.specs.Places.{IsFirstPlace, NoneFails}
+use Rattle.std.proofs.Common.{◌≡◌, ℕ, ℤ, ◌<◌, ◌≤◌, ◌↔◌, List, length, get_or, Option, None, Some, refl, ap, subst, sym, ◌∙◌, arith}
+use Rattle.std.proofs.lemmas.Bool.{ltb-true}
 use Rattle.cla_group.specs.Groups.{code_of, value_of, cell_of, first_row_of}
 use Rattle.cla_group.proofs.Regroup.{first_row_there, code_of_first_row, first_row_least}
 use Rattle.cla_coded.specs.Layouts.{LayoutPart, Layout, IsWhole, no_part, part_at, column_at, index_of, entry_in}
-use Rattle.cla_coded.specs.Firsts.{IsFirstOf, least_of, IsFirstFault, earliest_fault, IsExtremeEntry, IsReached}
+use Rattle.cla_coded.specs.Firsts.{IsFirstOf, least_of, IsFirstFault, earliest_fault, IsExtremeEntry}
 use Rattle.cla_coded.proofs.Leasts.{IsLeast, least_same, OfAny, least_of_all, alone, all_alone, least_alone, length-all_alone, get_or-all_alone}
 use Rattle.cla_coded.specs.Laws.{first_cell, IsFirstFaultOfPart, IsExtremeOfParts}
 use Rattle.cla_coded.proofs.Wholes.{some_part, entry_of_part, own_column, own_column_within}
@@ -74,7 +73,7 @@ pub cell_of_value : (bits : ℕ) (layout : Layout) (q k c : ℕ) → IsWhole bit
     → k < length (part_at layout.parts q).tuples → c < length (part_at layout.parts q).columns
     → (first_row_of (part_at layout.parts q).codes k < layout.rows) × (column_at (part_at layout.parts q).columns c < layout.cols)
     × (entry_in layout.parts (first_row_of (part_at layout.parts q).codes k) (column_at (part_at layout.parts q).columns c)
-        ≡ value_of (part_at layout.parts q).tuples k c)
+    ≡ value_of (part_at layout.parts q).tuples k c)
 cell_of_value bits layout q k c whole there tuple place =
     let part = part_at layout.parts q in
     let are = whole.each q there in
@@ -83,9 +82,12 @@ cell_of_value bits layout q k c whole there tuple place =
     let j = column_at part.columns c in
     let own = own_column part c are.rising place in
     let row : i < layout.rows = omega (arith, first_row_there part.codes k used, are.a_code_each) in
-    let col : j < layout.cols = own_column_within layout.cols layout.parts q j whole.partition there own.1 in
-    (row, col, entry_of_part layout.cols layout.parts q i j whole.partition there col own.1 ∙ ap (cell_of part.codes part.tuples i) own.0
-        ∙ ap (λ (t : ℕ). value_of part.tuples t c) (code_of_first_row part.codes k used))
+    let col : j < layout.cols = own_column_within layout.cols layout.parts q j whole.partition there own.1 in (
+      row,
+      col,
+      entry_of_part layout.cols layout.parts q i j whole.partition there col own.1 ∙ ap (cell_of part.codes part.tuples i) own.0
+          ∙ ap (λ (t : ℕ). value_of part.tuples t c) (code_of_first_row part.codes k used),
+    )
 
 -- the value of a cell: its tuple's first row is no later
 pub record IsValueOf (layout : Layout) (i j q k c : ℕ) : Type 0 where
@@ -103,21 +105,25 @@ value_of_cell bits layout i j whole row col =
     let q = found.0 in
     let part = part_at layout.parts q in
     let are = whole.each q found.1 in
-    let place = ltb-true _ _ found.2 in
-    (q, code_of part.codes i, index_of part.columns j, record {
-      there = found.1;
-      tuple = are.group.in_tuples i (rw are.a_code_each row);
-      place = place;
-      column = column_there part.columns j place;
-      entry = entry_of_part layout.cols layout.parts q i j whole.partition found.1 col found.2;
-      first = first_row_least part.codes i;
-    })
+    let place = ltb-true _ _ found.2 in (
+      q,
+      code_of part.codes i,
+      index_of part.columns j,
+      record {
+        there = found.1;
+        tuple = are.group.in_tuples i (rw are.a_code_each row);
+        place = place;
+        column = column_there part.columns j place;
+        entry = entry_of_part layout.cols layout.parts q i j whole.partition found.1 col found.2;
+        first = first_row_least part.codes i;
+      },
+    )
 
 -- what is so of the values of a part: each at the place of its tuple's first row and its column
 abbrev IsInPart : {W : Type 0} → (ℕ → ℕ → W → ℕ) → (ℕ → ℤ → W → Type 0) → LayoutPart → ℕ → W → Type 0
 IsInPart place Is part =
     IsAt (length part.tuples) (length part.columns) (λ k c w. place (first_row_of part.codes k) (column_at part.columns c) w)
-        (λ k c w. Is (column_at part.columns c) (value_of part.tuples k c) w)
+    (λ k c w. Is (column_at part.columns c) (value_of part.tuples k c) w)
 
 -- the least place of the values of all parts is that of the cells
 least_by_parts : {W : Type 0} (bits : ℕ) (layout : Layout) (place : ℕ → ℕ → W → ℕ) (Is : ℕ → ℤ → W → Type 0)
@@ -128,7 +134,7 @@ least_by_parts : {W : Type 0} (bits : ℕ) (layout : Layout) (place : ℕ → �
 least_by_parts {W} bits layout place Is firsts whole rises same each =
     let parts = layout.parts in
     least_same (OfAny (IsInPart place Is) no_part parts) (IsAt layout.rows layout.cols place (λ i j w. Is j (entry_in parts i j) w))
-        (earliest_fault firsts)
+    (earliest_fault firsts)
     (λ p w at.
     (let q = at.0 in
     let part = part_at parts q in
@@ -147,9 +153,12 @@ least_by_parts {W} bits layout place Is firsts whole rises same each =
     let is = value.3 in
     let here : Is (column_at part.columns c) (value_of part.tuples k c) w = rw is.column (subst (λ (z : ℤ). Is j z w) is.entry at.5) in
     let earlier : place (first_row_of part.codes k) (column_at part.columns c) w ≤ place i j w =
-        rw is.column (rises (first_row_of part.codes k) i j w is.first) in
-    (place (first_row_of part.codes k) (column_at part.columns c) w, (value.0, is.there, (k, c, is.tuple, is.place, refl, here)), omega
-        (arith, earlier, at.4))))
+    rw is.column (rises (first_row_of part.codes k) i j w is.first) in (
+      place (first_row_of part.codes k) (column_at part.columns c) w,
+      (value.0, is.there, (k, c, is.tuple, is.place, refl, here)),
+      omega
+          (arith, earlier, at.4),
+    )))
     (least_of_all (IsInPart place Is) no_part parts firsts same each)
 
 -- the first cell that fails is the least of the first places of the parts
@@ -158,19 +167,19 @@ pub first_by_parts : (bits : ℕ) (layout : Layout) (place : ℕ → ℕ → ℕ
     → length firsts ≡ length layout.parts
     → ((q : ℕ) → q < length layout.parts →
     IsFirstOf (length (part_at layout.parts q).tuples) (length (part_at layout.parts q).columns)
-        (first_cell place (part_at layout.parts q))
+    (first_cell place (part_at layout.parts q))
     (λ k c. Fails (column_at (part_at layout.parts q).columns c) (value_of (part_at layout.parts q).tuples k c)) (get_or firsts q None))
     → IsFirstOf layout.rows layout.cols place (λ i j. Fails j (entry_in layout.parts i j)) (least_of firsts)
 first_by_parts bits layout place Fails firsts whole rises same each =
     first_place layout.rows layout.cols place (λ i j. Fails j (entry_in layout.parts i j)) (least_of firsts)
     (subst (IsLeast (IsAt layout.rows layout.cols (λ i j w. place i j) (λ i j w. Fails j (entry_in layout.parts i j))))
-        (least_alone firsts)
+    (least_alone firsts)
     (least_by_parts bits layout (λ i j w. place i j) (λ j z w. Fails j z) (all_alone firsts) whole (λ i r j w le. rises i r j le)
-        (length-all_alone firsts ∙ same)
+    (length-all_alone firsts ∙ same)
     (λ q there. (let part = part_at layout.parts q in
     subst (IsLeast (IsInPart (λ i j w. place i j) (λ j z w. Fails j z) part)) (sym (get_or-all_alone firsts q))
     (least_place (length part.tuples) (length part.columns) (first_cell place part)
-        (λ k c. Fails (column_at part.columns c) (value_of part.tuples k c)) (get_or firsts q None) (each q there))))))
+    (λ k c. Fails (column_at part.columns c) (value_of part.tuples k c)) (get_or firsts q None) (each q there))))))
 
 -- and so is the first fault
 pub fault_by_parts : {W : Type 0} (bits : ℕ) (layout : Layout) (place : ℕ → ℕ → W → ℕ) (fault : ℕ → ℤ → Option W)
@@ -183,7 +192,7 @@ fault_by_parts bits layout place fault firsts whole rises same each =
     (least_by_parts bits layout place (λ j z w. fault j z ≡ Some w) firsts whole rises same
     (λ q there. (let part = part_at layout.parts q in
     least_fault (length part.tuples) (length part.columns) (λ k c w. place (first_row_of part.codes k) (column_at part.columns c) w)
-        (λ k c. fault (column_at part.columns c) (value_of part.tuples k c))
+    (λ k c. fault (column_at part.columns c) (value_of part.tuples k c))
     (get_or firsts q None) (each q there))))
 
 -- the least or the greatest entry is that of the tuples of all parts
@@ -197,7 +206,7 @@ extreme_by_parts bits layout Before f v whole = (
       let part = part_at layout.parts value.0 in
       let is = value.3 in
       let reached : f (column_at part.columns value.2) (value_of part.tuples value.1 value.2)
-          ≡ v = ap (λ (c : ℕ). f c (value_of part.tuples value.1 value.2)) is.column ∙ ap (f j) (sym is.entry) ∙ cells.reached.4 in
+      ≡ v = ap (λ (c : ℕ). f c (value_of part.tuples value.1 value.2)) is.column ∙ ap (f j) (sym is.entry) ∙ cells.reached.4 in
       record {
         reached = (value.0, is.there, (value.1, value.2, is.tuple, is.place, reached));
         before = λ q k c there tuple place.

@@ -45,7 +45,7 @@ each_part bits outer inner one other (suc (suc q)) there = absurd (omega (arith,
 pub two_whole : (bits : ℕ) (parts : List LayoutPart) (outer inner codes codes' : List ℕ) (tuples tuples' : List (List ℤ))
     (width width' : ℕ)
     → parts ≡ record { columns = outer; codes = codes; tuples = tuples } ∷ record { columns = inner; codes = codes'; tuples = tuples' } ∷
-        []
+    []
     → outer ≡ 0 ∷ 2 ∷ [] → inner ≡ 1 ∷ [] → length codes ≡ 4 → length codes' ≡ 4 → width ≡ 2 → width' ≡ 1
     → IsGroup bits width codes tuples → IsGroup bits width' codes' tuples' → IsWhole bits (record { rows = 4; cols = 3; parts = parts })
 two_whole bits parts outer inner codes codes' tuples tuples' width width' parts_are outer_is inner_is rows rows' width_is width_is' group

@@ -27,8 +27,12 @@ listed_at (column ∷ columns) zero there =
     let one = one_where (eqb column column) (eq-eqb column column refl) in
     omega (arith, sum_by-cons (λ code. cond (eqb code column) 1 0) column columns, one)
 listed_at (column ∷ columns) (suc p) there =
-    omega (arith, sum_by-cons (λ code. cond (eqb code (code_of columns p)) 1 0) column columns, listed_at columns p
-        (omega (arith, there)))
+    omega (
+      arith,
+      sum_by-cons (λ code. cond (eqb code (code_of columns p)) 1 0) column columns,
+      listed_at columns p
+          (omega (arith, there)),
+    )
 
 pub lists_column : (part : LayoutPart) (j : ℕ) → has_column part j ≡ true → 1 ≤ occurrences_of part.columns j
 lists_column part j has = listed part.columns j (ltb-true _ _ has)
@@ -39,8 +43,12 @@ part_lists [] q j there has = absurd (omega (arith, there))
 part_lists (part ∷ parts) zero j there has = omega
     (arith, sum_by-append (λ code. cond (eqb code j) 1 0) part.columns (all_columns parts), lists_column part j has)
 part_lists (part ∷ parts) (suc q) j there has =
-    omega (arith, sum_by-append (λ code. cond (eqb code j) 1 0) part.columns (all_columns parts), part_lists parts q j
-    (omega (arith, there)) has)
+    omega (
+      arith,
+      sum_by-append (λ code. cond (eqb code j) 1 0) part.columns (all_columns parts),
+      part_lists parts q j
+          (omega (arith, there)) has,
+    )
 
 -- a column that two parts have is listed twice
 twice : (parts : List LayoutPart) (p q j : ℕ) → p < q → q < length parts → has_column (part_at parts p) j ≡ true
@@ -48,11 +56,20 @@ twice : (parts : List LayoutPart) (p q j : ℕ) → p < q → q < length parts �
 twice [] p q j before there has also = absurd (omega (arith, there))
 twice (part ∷ parts) p zero j before there has also = absurd (omega (arith, before))
 twice (part ∷ parts) zero (suc q) j before there has also =
-    omega (arith, sum_by-append (λ code. cond (eqb code j) 1 0) part.columns
-        (all_columns parts), lists_column part j has, part_lists parts q j (omega (arith, there)) also)
+    omega (
+      arith,
+      sum_by-append (λ code. cond (eqb code j) 1 0) part.columns
+          (all_columns parts),
+      lists_column part j has,
+      part_lists parts q j (omega (arith, there)) also,
+    )
 twice (part ∷ parts) (suc p) (suc q) j before there has also =
-    omega (arith, sum_by-append (λ code. cond (eqb code j) 1 0) part.columns (all_columns parts), twice parts p q j
-        (omega (arith, before)) (omega (arith, there)) has also)
+    omega (
+      arith,
+      sum_by-append (λ code. cond (eqb code j) 1 0) part.columns (all_columns parts),
+      twice parts p q j
+          (omega (arith, before)) (omega (arith, there)) has also,
+    )
 
 -- so no other part has it
 pub only_part : (cols : ℕ) (parts : List LayoutPart) (p q j : ℕ) → IsPartition cols (all_columns parts) → p < length parts
@@ -77,7 +94,7 @@ further : (part : LayoutPart) (parts : List LayoutPart) (j : ℕ) → has_column
     → ((q : ℕ) × (q < length parts) × (has_column (part_at parts q) j ≡ true)) ⊎
     ((q : ℕ) → q < length parts → has_column (part_at parts q) j ≡ false)
     → ((q : ℕ) × (q < length (part ∷ parts)) × (has_column (part_at (part ∷ parts) q) j ≡ true)) ⊎
-        ((q : ℕ) → q < length (part ∷ parts) → has_column (part_at (part ∷ parts) q) j ≡ false)
+    ((q : ℕ) → q < length (part ∷ parts) → has_column (part_at (part ∷ parts) q) j ≡ false)
 further part parts j elsewhere (inl found) = inl (suc found.0, omega (arith, found.1), found.2)
 further part parts j elsewhere (inr none) = inr (nowhere part parts j elsewhere none)
 

@@ -30,7 +30,7 @@ abbrev pub RowsSumByParts : Type 0
 RowsSumByParts = (bits : ℕ) (layout : Layout) (f : ℕ → ℤ → ℤ) (i : ℕ) → IsWhole bits layout →
     sum_to (λ j. f j (entry_in layout.parts i j)) layout.cols
     ≡ sum_over (λ part. sum_to (λ c. f (column_at part.columns c) (cell_of part.codes part.tuples i c))
-        (length part.columns)) layout.parts
+    (length part.columns)) layout.parts
 
 -- a value of each cell, added up over rows and columns, is the same added up over the rows and places of each part, and
 -- over the parts
@@ -38,7 +38,7 @@ abbrev pub SumsByParts : Type 0
 SumsByParts = (bits : ℕ) (layout : Layout) (f : ℕ → ℕ → ℤ → ℤ) → IsWhole bits layout →
     sum_of_entries layout.rows layout.cols (λ i j. f i j (entry_in layout.parts i j))
     ≡ sum_over (λ part. sum_of_entries layout.rows (length part.columns)
-        (λ i c. f i (column_at part.columns c) (cell_of part.codes part.tuples i c))) layout.parts
+    (λ i c. f i (column_at part.columns c) (cell_of part.codes part.tuples i c))) layout.parts
 
 -- and so is a sum over the rows and columns of the transpose
 abbrev pub SumsTranspose : Type 0
@@ -53,7 +53,7 @@ first_cell place part k c = place (first_row_of part.codes k) (column_at part.co
 abbrev pub IsFirstOfPart : (ℕ → ℕ → ℕ) → (ℕ → ℤ → Bool) → LayoutPart → Option ℕ → Type 0
 IsFirstOfPart place fails part first =
     IsFirstOf (length part.tuples) (length part.columns) (first_cell place part)
-        (λ k c. fails (column_at part.columns c) (value_of part.tuples k c) ≡ true) first
+    (λ k c. fails (column_at part.columns c) (value_of part.tuples k c) ≡ true) first
 
 -- The first cell that fails is the least of the first places of the parts, and none fails where none fails in any part. The
 -- order of the places is free, as long as a later row of the same column has no earlier place: so this holds of tables and
@@ -63,21 +63,21 @@ FirstPlacesByParts = (bits : ℕ) (layout : Layout) (place : ℕ → ℕ → ℕ
     (firsts : List (Option ℕ)) → IsWhole bits layout →
     ((i r j : ℕ) → i ≤ r → place i j ≤ place r j) → length firsts ≡ length layout.parts →
     ((q : ℕ) → q < length layout.parts → IsFirstOfPart place fails (part_at layout.parts q)
-        (slice_index_or firsts q None)) →
+    (slice_index_or firsts q None)) →
     IsFirstOf layout.rows layout.cols place (λ i j. fails j (entry_in layout.parts i j) ≡ true) (least_of firsts)
 
 -- rows and columns exchanged
 abbrev pub FirstPlacesTranspose : Type 0
 FirstPlacesTranspose = (rows cols : ℕ) (place : ℕ → ℕ → ℕ) (fails : ℕ → ℕ → Bool) (first : Option ℕ) →
     IsFirstOf rows cols place (λ i j. fails i j ≡ true) first
-        → IsFirstOf cols rows (λ j i. place i j) (λ j i. fails i j ≡ true) first
+    → IsFirstOf cols rows (λ j i. place i j) (λ j i. fails i j ≡ true) first
 
 -- the first fault of a part: the place of a value is where its tuple's first row has its column
 abbrev pub IsFirstFaultOfPart : {W : Type 0} → (ℕ → ℕ → W → ℕ) → (ℕ → ℤ → Option W) → LayoutPart → Option (ℕ × W)
     → Type 0
 IsFirstFaultOfPart place fault part first = IsFirstFault (length part.tuples) (length part.columns)
     (λ k c w. place (first_row_of part.codes k) (column_at part.columns c) w)
-        (λ k c. fault (column_at part.columns c) (value_of part.tuples k c)) first
+    (λ k c. fault (column_at part.columns c) (value_of part.tuples k c)) first
 
 -- the first fault is the first of those of the parts, and there is none where no part has one
 abbrev pub FaultsByParts : Type 0
@@ -85,7 +85,7 @@ FaultsByParts = (bits : ℕ) (layout : Layout) (place : ℕ → ℕ → What →
     (firsts : List (Option (ℕ × What))) → IsWhole bits layout →
     ((i r j : ℕ) (w : What) → i ≤ r → place i j w ≤ place r j w) → length firsts ≡ length layout.parts →
     ((q : ℕ) → q < length layout.parts → IsFirstFaultOfPart place fault (part_at layout.parts q)
-        (slice_index_or firsts q None)) →
+    (slice_index_or firsts q None)) →
     IsFirstFault layout.rows layout.cols place (λ i j. fault j (entry_in layout.parts i j)) (earliest_fault firsts)
 
 -- rows and columns exchanged
@@ -111,7 +111,7 @@ ExtremesByParts = (bits : ℕ) (layout : Layout) (before : ℤ → ℤ → Bool)
 abbrev pub ExtremesTranspose : Type 0
 ExtremesTranspose = (before : ℤ → ℤ → Bool) (rows cols : ℕ) (entry : ℕ → ℕ → ℤ) (v : ℤ) →
     IsExtremeEntry (λ x y. before x y ≡ true) rows cols entry v
-        → IsExtremeEntry (λ x y. before x y ≡ true) cols rows (λ j i. entry i j) v
+    → IsExtremeEntry (λ x y. before x y ≡ true) cols rows (λ j i. entry i j) v
 
 -- the values of the first parts of a layout are no more than its cells
 abbrev pub ValuesAreFew : Type 0

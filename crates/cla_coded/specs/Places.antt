@@ -23,13 +23,13 @@ abbrev pub IsRowWritten : Shape → LayoutPart → ℕ → ℕ → List ℤ → 
 IsRowWritten shape part k i old new = (r j : ℕ) → r < shape.rows → j < shape.cols →
     at new (place_in shape r j)
     ≡ (if r == i && has_column part j then value_of part.tuples k (index_of part.columns j) else at old
-        (place_in shape r j))
+    (place_in shape r j))
 
 -- the columns of a part hold its values in the rows that pass a test; all other cells hold what they held
 abbrev pub AreRowsWritten : (ℕ → Bool) → Shape → LayoutPart → List ℤ → List ℤ → Type 0
 AreRowsWritten test shape part old new = (r j : ℕ) → r < shape.rows → j < shape.cols →
     at new (place_in shape r j) ≡ (if test r && has_column part j then value_in part r j else at old
-        (place_in shape r j))
+    (place_in shape r j))
 
 -- the same in all rows
 abbrev pub IsPartWritten : Shape → LayoutPart → List ℤ → List ℤ → Type 0

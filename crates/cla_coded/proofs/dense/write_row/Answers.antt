@@ -16,10 +16,10 @@ loop-c-preserved g c =
     let width = same_width _ _ _ _ _ c.requires.part.is.group (g.met.G.Group.laws part.group) in
     let there : c.loop-c.c < length columns = omega (arith, width, c.loop-c-test.true, c.width-c-end.ensures) in
     let column : c.index.result.now ≡ column_at columns c.loop-c.c =
-        column_read columns c.loop-c.c c.index.result.now c.index.ensures there in
+    column_read columns c.loop-c.c c.index.result.now c.index.ensures there in
     rw (map-set value c.loop-c.cells c.place.result c.value.result)
     (column_step c.args.shape columns (value_of (g.G.Group.dictionary part.group) c.args.k) c.args.i c.loop-c.c c.place.result
-        (value c.value.result) (map value c.args.cells.now) (map value c.loop-c.cells)
+    (value c.value.result) (map value c.args.cells.now) (map value c.loop-c.cells)
     c.requires.part.is.rising there c.requires.row (c.requires.part.columns c.loop-c.c there)
-        (c.place.ensures.place ∙ ap (place_in c.args.shape c.args.i) column) c.value.ensures
+    (c.place.ensures.place ∙ ap (place_in c.args.shape c.args.i) column) c.value.ensures
     (length-map c.loop-c.cells value ∙ c.loop-c.auto.cells ∙ c.requires.cells.count) c.loop-c.invariant)

@@ -11,7 +11,7 @@ value_in-requires-clause-part g c =
     let parts = c.args.parts.now in
     let is = part_of_item codes_of dictionary_of parts c.loop-part.part-index c.part-item.result c.loop-part-test.true c.part-item.is in
     let part = rw is at (c.requires.2.each c.loop-part.part-index (rw (parts_count codes_of dictionary_of parts) c.loop-part-test.true))
-        in
+    in
     rw part.a_code_each part
 
 pub value_in-requires-clause-row : goal.value_in-requires-clause-row
@@ -21,7 +21,7 @@ value_in-requires-clause-row g c =
     let parts = c.args.parts.now in
     let is = part_of_item codes_of dictionary_of parts c.loop-part.part-index c.part-item.result c.loop-part-test.true c.part-item.is in
     let part = rw is at (c.requires.2.each c.loop-part.part-index (rw (parts_count codes_of dictionary_of parts) c.loop-part-test.true))
-        in
+    in
     omega (arith, part.a_code_each, c.requires.3)
 
 pub returns-in-Some : goal.returns-in-Some
@@ -31,7 +31,7 @@ returns-in-Some g c =
     let parts = c.args.parts.now in
     let is = part_of_item codes_of dictionary_of parts c.loop-part.part-index c.part-item.result c.loop-part-test.true c.part-item.is in
     let entry = entry_at (parts_of codes_of dictionary_of parts) c.loop-part.part-index c.args.i c.args.j
-        (rw (parts_count codes_of dictionary_of parts) c.loop-part-test.true) c.loop-part.invariant (rw is c.in-Some.ensures.0) in
+    (rw (parts_count codes_of dictionary_of parts) c.loop-part-test.true) c.loop-part.invariant (rw is c.in-Some.ensures.0) in
     c.in-Some.ensures.1 ∙ sym (rw is at entry)
 
 pub loop-part-preserved : goal.loop-part-preserved

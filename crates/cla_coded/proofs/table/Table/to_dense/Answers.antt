@@ -9,7 +9,7 @@ pub new-requires : goal.new-requires
 new-requires g c =
     let t = c.self.inside in
     dense_shape g.N.Number.BITS (record { rows = t.rows; cols = t.cols; flipped = t.flipped })
-        (parts_of g.G.Group.codes g.G.Group.dictionary t.parts.items) c.in_ok-cells.cells.items c.rows.result c.cols.result
+    (parts_of g.G.Group.codes g.G.Group.dictionary t.parts.items) c.in_ok-cells.cells.items c.rows.result c.cols.result
     c.self.invariant c.in_ok-cells.ensures.count (rw (sym c.self.view_is) at c.rows.ensures) (rw (sym c.self.view_is) at c.cols.ensures)
 
 pub returns : goal.returns
@@ -20,7 +20,7 @@ returns g c =
     let entries = rw c.deref.ensures.value at c.in_ok-cells.ensures.entries in
     c.new.ensures
     ∙ dense_is g.N.Number.BITS (record { rows = t.rows; cols = t.cols; flipped = t.flipped })
-        (parts_of g.G.Group.codes g.G.Group.dictionary t.parts.items) (map value cells) c.rows.result c.cols.result
+    (parts_of g.G.Group.codes g.G.Group.dictionary t.parts.items) (map value cells) c.rows.result c.cols.result
     c.self.invariant (length-map cells value ∙ c.in_ok-cells.ensures.count) entries (rw (sym c.self.view_is) at c.rows.ensures)
-        (rw (sym c.self.view_is) at c.cols.ensures)
+    (rw (sym c.self.view_is) at c.cols.ensures)
     ∙ ap (matrix_of g.G.Group.codes g.G.Group.dictionary) c.self.view_is
