@@ -1,8 +1,7 @@
-use Rattle.std.proofs.Common.{◌≡◌, ◌<◌, length, map, ap, ◌∙◌, arith}
+use Rattle.std.proofs.Common.{◌≡◌, ◌<◌, length, map, ◌∙◌, arith}
 use Rattle.std.proofs.lemmas.List.{map-set, length-map}
 use Rattle.cla_group.specs.Groups.{value_of}
 use Rattle.cla_coded.specs.Layouts.{column_at}
-use Rattle.cla_coded.specs.Places.{place_in}
 use Rattle.cla_coded.proofs.Columns.{column_read}
 use Rattle.cla_coded.proofs.CellPlaces.{column_step}
 use Rattle.cla_coded.proofs.Wholes.{same_width}
@@ -21,5 +20,5 @@ loop-c-preserved g c =
     (column_step c.args.shape columns (value_of (g.G.Group.dictionary part.group) c.args.k) c.args.i c.loop-c.c c.place.result
     (value c.value.result) (map value c.args.cells.now) (map value c.loop-c.cells)
     c.requires.part.is.rising there c.requires.row (c.requires.part.columns c.loop-c.c there)
-    (c.place.ensures.place ∙ ap (place_in c.args.shape c.args.i) column) c.value.ensures
+    (rw column at c.place.ensures.place) c.value.ensures
     (length-map c.loop-c.cells value ∙ c.loop-c.auto.cells ∙ c.requires.cells.count) c.loop-c.invariant)

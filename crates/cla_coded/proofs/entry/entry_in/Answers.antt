@@ -1,4 +1,4 @@
-use Rattle.std.proofs.Common.{sym, ◌∙◌, arith, inl, inr}
+use Rattle.std.proofs.Common.{arith, inl, inr}
 use Rattle.std.proofs.lemmas.Bool.{cases_eq}
 use Rattle.cla_coded.specs.Parts.{parts_of}
 use Rattle.cla_coded.proofs.Columns.{entry_at, nowhere_listed, part_of_item, parts_count}
@@ -32,7 +32,7 @@ returns-in-Some g c =
     let is = part_of_item codes_of dictionary_of parts c.loop-part.part-index c.part-item.result c.loop-part-test.true c.part-item.is in
     let entry = entry_at (parts_of codes_of dictionary_of parts) c.loop-part.part-index c.args.i c.args.j
     (rw (parts_count codes_of dictionary_of parts) c.loop-part-test.true) c.loop-part.invariant (rw is c.in-Some.ensures.0) in
-    c.in-Some.ensures.1 ∙ sym (rw is at entry)
+    rw (entry, is) c.in-Some.ensures.1
 
 pub loop-part-preserved : goal.loop-part-preserved
 loop-part-preserved g c q lt =
