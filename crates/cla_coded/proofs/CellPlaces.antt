@@ -9,7 +9,7 @@ use Rattle.cla_group.specs.Groups.{at, code_of, first_row_of}
 use Rattle.cla_group.proofs.Regroup.{code_of_first_row}
 use Rattle.cla_coded.specs.declared.dense.Shape.{Shape}
 use Rattle.cla_coded.specs.Layouts.{LayoutPart, IsPart, column_at, index_of, has_column}
-use Rattle.cla_coded.specs.Places.{place_in, IsRowWritten, AreRowsWritten, IsPartWritten}
+use Rattle.cla_coded.specs.Places.{place_in, IsRowWritten, AreRowsWritten}
 use Rattle.cla_coded.proofs.Columns.{Rise, place_of_column}
 use Rattle.cla_coded.proofs.OwnRows.{own_row}
 use Rattle.cla_coded.proofs.Matrices.{column_there}
@@ -21,7 +21,8 @@ stride_distinct a i i' j j' below also same = (
 )
 
 -- different entries have different places
-pub place_distinct : (shape : Shape) (i i' j j' : ℕ) → i < shape.rows → i' < shape.rows → j < shape.cols → j' < shape.cols → place_in shape i j ≡ place_in shape i' j' → (i ≡ i') × (j ≡ j')
+pub place_distinct : (shape : Shape) (i i' j j' : ℕ) → i < shape.rows → i' < shape.rows → j < shape.cols → j' < shape.cols
+    → place_in shape i j ≡ place_in shape i' j' → (i ≡ i') × (j ≡ j')
 place_distinct shape i i' j j' row row' col col' same = elim (cases_Bool shape.flipped) [
   | inl flipped ↦ (let both = stride_distinct shape.rows j j' i i' row row' (rw flipped at same) in (both.1, both.0))
   | inr plain ↦ stride_distinct shape.cols i i' j j' col col' (rw plain at same)
@@ -44,10 +45,13 @@ not_here r n other = elim (cases_lt r n) [
 -- the columns before place n of row i are written
 abbrev pub RowWrittenTo : Shape → List ℕ → (ℕ → ℤ) → ℕ → ℕ → List ℤ → List ℤ → Type 0
 RowWrittenTo shape columns tuple i n first now = (r j : ℕ) → r < shape.rows → j < shape.cols →
-    at now (place_in shape r j) ≡ cond (eqb r i && ltb (index_of columns j) n) (tuple (index_of columns j)) (at first (place_in shape r j))
+    at now (place_in shape r j) ≡ cond (eqb r i && ltb (index_of columns j) n) (tuple (index_of columns j))
+    (at first (place_in shape r j))
 
-pub column_step : (shape : Shape) (columns : List ℕ) (tuple : ℕ → ℤ) (i c p : ℕ) (v : ℤ) (first now : List ℤ) → Rise columns → c < length columns
-    → i < shape.rows → column_at columns c < shape.cols → p ≡ place_in shape i (column_at columns c) → v ≡ tuple c → length now ≡ shape.rows * shape.cols
+pub column_step : (shape : Shape) (columns : List ℕ) (tuple : ℕ → ℤ) (i c p : ℕ) (v : ℤ) (first now : List ℤ) → Rise columns
+    → c < length columns
+    → i < shape.rows → column_at columns c < shape.cols → p ≡ place_in shape i (column_at columns c) → v ≡ tuple c → length now
+    ≡ shape.rows * shape.cols
     → RowWrittenTo shape columns tuple i c first now → RowWrittenTo shape columns tuple i (c + 1) first (set now p v)
 column_step shape columns tuple i c p v first now rising there row col place is count written r j row' col' =
     let distinct = place_distinct shape r i j (column_at columns c) row' row col' col in
@@ -63,9 +67,11 @@ column_step shape columns tuple i c p v first now rising there row col place is 
             rw (here, eq-eqb r i same_row, index, lt-ltb c (c + 1) (omega arith)) (get_or-set_same now p v (pos 0) within ∙ is)
         | inr other ↦
             let elsewhere : place_in shape r j ≡ p → ⊥ = λ same. other ((distinct (same ∙ place)).1) in
-            let later : index_of columns j ≡ c → ⊥ = λ place. other (sym (column_there columns j (omega (arith, place, there))) ∙ ap (column_at columns) place) in
+            let later : index_of columns j ≡ c → ⊥ = λ place. other
+            (sym (column_there columns j (omega (arith, place, there))) ∙ ap (column_at columns) place) in
             get_or-set_other now p (place_in shape r j) v (pos 0) elsewhere ∙ written r j row' col'
-            ∙ ap (λ (b : Bool). cond (eqb r i && b) (tuple (index_of columns j)) (at first (place_in shape r j))) (not_here (index_of columns j) c later)
+            ∙ ap (λ (b : Bool). cond (eqb r i && b) (tuple (index_of columns j)) (at first (place_in shape r j)))
+            (not_here (index_of columns j) c later)
       ]
     ]
 
@@ -74,7 +80,8 @@ not_both true = refl
 not_both false = refl
 
 -- one more row is written, with its tuple
-row_step : (test more : ℕ → Bool) (shape : Shape) (part : LayoutPart) (k i : ℕ) (first now next : List ℤ) → k ≡ code_of part.codes i → more i ≡ true
+row_step : (test more : ℕ → Bool) (shape : Shape) (part : LayoutPart) (k i : ℕ) (first now next : List ℤ) → k ≡ code_of part.codes i
+    → more i ≡ true
     → ((r : ℕ) → r < shape.rows → (r ≡ i → ⊥) → more r ≡ test r) → IsRowWritten shape part k i now next
     → AreRowsWritten test shape part first now → AreRowsWritten more shape part first next
 row_step test more shape part k i first now next code here others written so_far r j row col = elim (cases_eq r i) [
@@ -87,22 +94,17 @@ row_step test more shape part k i first now next code here others written so_far
   ]
 ]
 
-pub code_step : (shape : Shape) (part : LayoutPart) (k i : ℕ) (first now next : List ℤ) → k ≡ code_of part.codes i → IsRowWritten shape part k i now next
-    → AreRowsWritten (λ r. ltb r i) shape part first now → AreRowsWritten (λ r. ltb r (i + 1)) shape part first next
-code_step shape part k i first now next code written so_far =
-    row_step (λ r. ltb r i) (λ r. ltb r (i + 1)) shape part k i first now next code (lt-ltb i (i + 1) (omega arith)) (λ r row other. sym (not_here r i other)) written so_far
-
 -- where each row has a tuple of its own, the row of tuple k is the only one with code k
-pub tuple_step : (bits : ℕ) (shape : Shape) (part : LayoutPart) (k i : ℕ) (first now next : List ℤ) → IsPart bits shape.rows part → length part.tuples ≡ shape.rows → k < length part.tuples
+pub tuple_step : (bits : ℕ) (shape : Shape) (part : LayoutPart) (k i : ℕ) (first now next : List ℤ) → IsPart bits shape.rows part
+    → length part.tuples ≡ shape.rows → k < length part.tuples
     → i ≡ first_row_of part.codes k → IsRowWritten shape part k i now next
-    → AreRowsWritten (λ r. ltb (code_of part.codes r) k) shape part first now → AreRowsWritten (λ r. ltb (code_of part.codes r) (k + 1)) shape part first next
+    → AreRowsWritten (λ r. ltb (code_of part.codes r) k) shape part first now
+    → AreRowsWritten (λ r. ltb (code_of part.codes r) (k + 1)) shape part first next
 tuple_step bits shape part k i first now next is own there first_row written so_far =
     let codes = part.codes in
     let code : code_of codes i ≡ k = ap (code_of codes) first_row ∙ code_of_first_row codes k (is.group.used k there) in
-    row_step (λ r. ltb (code_of codes r) k) (λ r. ltb (code_of codes r) (k + 1)) shape part k i first now next (sym code) (lt-ltb (code_of codes i) (k + 1) (omega (arith, code)))
+    row_step (λ r. ltb (code_of codes r) k) (λ r. ltb (code_of codes r) (k + 1)) shape part k i first now next (sym code)
+    (lt-ltb (code_of codes i) (k + 1) (omega (arith, code)))
     (λ r row other. sym (not_here (code_of codes r) k (λ same. other
-    (sym (own_row codes (length part.tuples) r is.group.used (own ∙ sym is.a_code_each) (rw is.a_code_each row) is.group.in_tuples) ∙ ap (first_row_of codes) same ∙ sym first_row)))) written so_far
-
--- once all rows are written
-pub rows_written : (test : ℕ → Bool) (shape : Shape) (part : LayoutPart) (first now : List ℤ) → ((r : ℕ) → r < shape.rows → test r ≡ true) → AreRowsWritten test shape part first now → IsPartWritten shape part first now
-rows_written test shape part first now all written r j row col = written r j row col ∙ rw (all r row) refl
+    (sym (own_row codes (length part.tuples) r is.group.used (own ∙ sym is.a_code_each) (rw is.a_code_each row) is.group.in_tuples)
+    ∙ ap (first_row_of codes) same ∙ sym first_row)))) written so_far

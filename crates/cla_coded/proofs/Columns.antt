@@ -1,7 +1,7 @@
 -- Columns of parts, and the entries in them.
 use Rattle.std.proofs.Common.{◌≡◌, true, false, ℕ, ℤ, zero, suc, ◌<◌, ◌≤◌, List, [], ◌∷◌, length, cond, eqb, get_or, Ok, Err, refl, ap, sym, ◌∙◌, arith, inl, inr}
 use Rattle.std.proofs.lemmas.Bool.{cases_eq, cases_lt, eq-eqb, ne_eqb, ltb-false}
-use Rattle.std.proofs.lemmas.List.{get_or-map, length-map}
+use Rattle.std.proofs.lemmas.List.{get_or_default, get_or-map, length-map}
 use Rattle.std.proofs.lemmas.List.Sums.{position_or_len_is, sum_by-append}
 use Rattle.std.specs.Ordering.{nat_cmp}
 use Rattle.std.specs.List.Sorted.{IsBinarySearchResult}
@@ -16,15 +16,21 @@ use Rattle.cla_coded.specs.Layouts.{LayoutPart, no_part, part_at, all_columns, h
 abbrev pub Rise : List ℕ → Type 0
 Rise columns = (c d : ℕ) → c < d → d < length columns → code_of columns c < code_of columns d
 
+-- the column that is read in a place
+pub column_read : (columns : List ℕ) (c j : ℕ) → j ≡ get_or columns c j → c < length columns → j ≡ code_of columns c
+column_read columns c j is there = is ∙ get_or_default columns c j 0 there
+
 -- a column's place among columns that rise
-pub place_of_column : (columns : List ℕ) (c j : ℕ) → Rise columns → c < length columns → code_of columns c ≡ j → first_row_of columns j ≡ c
+pub place_of_column : (columns : List ℕ) (c j : ℕ) → Rise columns → c < length columns → code_of columns c ≡ j → first_row_of columns j
+    ≡ c
 place_of_column columns c j rising there is =
     position_or_len_is (λ code. eqb code j) columns c 0 (omega (arith, there))
     (λ b before. ne_eqb (code_of columns b) j (λ same. omega (arith, rising b c before there, same, is)))
     (λ _. eq-eqb (code_of columns c) j is)
 
 -- a column that isn't among them
-pub no_place : (columns : List ℕ) (j : ℕ) → ((c : ℕ) → c < length columns → code_of columns c ≡ j → ⊥) → first_row_of columns j ≡ length columns
+pub no_place : (columns : List ℕ) (j : ℕ) → ((c : ℕ) → c < length columns → code_of columns c ≡ j → ⊥) → first_row_of columns j
+    ≡ length columns
 no_place columns j other =
     position_or_len_is (λ code. eqb code j) columns (length columns) 0 (omega arith)
     (λ c there. ne_eqb (code_of columns c) j (other c there))
@@ -37,12 +43,14 @@ rise_equal columns rising c d le there = elim (cases_eq c d) [
 ]
 
 -- what a search for a column finds
-pub column_found : (columns : List ℕ) (j c : ℕ) → Rise columns → IsBinarySearchResult (λ y. nat_cmp y j) columns (Ok c) → (c < length columns) × (first_row_of columns j ≡ c)
+pub column_found : (columns : List ℕ) (j c : ℕ) → Rise columns → IsBinarySearchResult (λ y. nat_cmp y j) columns (Ok c)
+    → (c < length columns) × (first_row_of columns j ≡ c)
 column_found columns j c rising found =
     let at = searched columns j (Ok c) found (rise_equal columns rising) in
     (at.0, place_of_column columns c j rising at.0 at.1)
 
-pub column_missing : (columns : List ℕ) (j c : ℕ) → Rise columns → IsBinarySearchResult (λ y. nat_cmp y j) columns (Err c) → first_row_of columns j ≡ length columns
+pub column_missing : (columns : List ℕ) (j c : ℕ) → Rise columns → IsBinarySearchResult (λ y. nat_cmp y j) columns (Err c)
+    → first_row_of columns j ≡ length columns
 column_missing columns j c rising missing =
     let at = searched columns j (Err c) missing (rise_equal columns rising) in
     no_place columns j (λ d there same. elim (cases_lt d c) [
@@ -51,7 +59,8 @@ column_missing columns j c rising missing =
     ])
 
 -- the entry in a column, which the first part that has it gives
-pub entry_at : (parts : List LayoutPart) (q i j : ℕ) → q < length parts → ((p : ℕ) → p < q → has_column (part_at parts p) j ≡ false) → has_column (part_at parts q) j ≡ true
+pub entry_at : (parts : List LayoutPart) (q i j : ℕ) → q < length parts → ((p : ℕ) → p < q → has_column (part_at parts p) j ≡ false)
+    → has_column (part_at parts q) j ≡ true
     → entry_in parts i j ≡ cell_of (part_at parts q).codes (part_at parts q).tuples i (first_row_of (part_at parts q).columns j)
 entry_at [] q i j there none has = absurd (omega (arith, there))
 entry_at (part ∷ parts) zero i j there none has = rw has refl
@@ -66,7 +75,8 @@ not_listed part j none =
       | inr past ↦ omega (arith, past)
     ]
 
-pub nowhere_listed : (parts : List LayoutPart) (j : ℕ) → ((q : ℕ) → q < length parts → has_column (part_at parts q) j ≡ false) → occurrences_of (all_columns parts) j ≡ 0
+pub nowhere_listed : (parts : List LayoutPart) (j : ℕ) → ((q : ℕ) → q < length parts → has_column (part_at parts q) j ≡ false)
+    → occurrences_of (all_columns parts) j ≡ 0
 nowhere_listed [] j none = refl
 nowhere_listed (part ∷ parts) j none =
     let here : occurrences_of part.columns j ≡ 0 = not_listed part j (none zero (omega arith)) in
@@ -74,10 +84,12 @@ nowhere_listed (part ∷ parts) j none =
     omega (arith, sum_by-append (λ code. cond (eqb code j) 1 0) part.columns (all_columns parts), here, later)
 
 -- the part of an item
-pub part_of_item : {G : Type 0} (codes_of : G → List ℕ) (dictionary_of : G → List (List ℤ)) (parts : List (Part G)) (q : ℕ) (item : Part G) → q < length parts → item ≡ get_or parts q item
+pub part_of_item : {G : Type 0} (codes_of : G → List ℕ) (dictionary_of : G → List (List ℤ)) (parts : List (Part G)) (q : ℕ)
+    (item : Part G) → q < length parts → item ≡ get_or parts q item
     → part_at (parts_of codes_of dictionary_of parts) q ≡ part_of codes_of dictionary_of item
 part_of_item codes_of dictionary_of parts q item there is =
     get_or-map (part_of codes_of dictionary_of) parts q item no_part there ∙ ap (part_of codes_of dictionary_of) (sym is)
 
-pub parts_count : {G : Type 0} (codes_of : G → List ℕ) (dictionary_of : G → List (List ℤ)) (parts : List (Part G)) → length (parts_of codes_of dictionary_of parts) ≡ length parts
+pub parts_count : {G : Type 0} (codes_of : G → List ℕ) (dictionary_of : G → List (List ℤ)) (parts : List (Part G))
+    → length (parts_of codes_of dictionary_of parts) ≡ length parts
 parts_count codes_of dictionary_of parts = length-map parts (part_of codes_of dictionary_of)

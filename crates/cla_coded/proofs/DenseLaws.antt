@@ -11,7 +11,8 @@ use Rattle.cla_coded.proofs.Wholes.{only_part, some_part, entry_of_part, own_col
 use Rattle.cla_coded.proofs.Matrices.{entry_matrix_in, same_matrix}
 
 -- a part of a whole base
-pub part_in : (bits : ℕ) (shape : Shape) (parts : List LayoutPart) (q : ℕ) → IsWhole bits (layout_with shape.rows shape.cols parts) → q < length parts → IsPartOf bits shape (part_at parts q)
+pub part_in : (bits : ℕ) (shape : Shape) (parts : List LayoutPart) (q : ℕ) → IsWhole bits (layout_with shape.rows shape.cols parts)
+    → q < length parts → IsPartOf bits shape (part_at parts q)
 part_in bits shape parts q whole there = record {
   is = whole.each q there;
   columns = λ c place.
@@ -21,9 +22,11 @@ part_in bits shape parts q whole there = record {
 
 -- the columns of the first n parts are written
 abbrev pub PartsWrittenTo : Shape → List LayoutPart → ℕ → List ℤ → Type 0
-PartsWrittenTo shape parts n cells = (q i j : ℕ) → q < n → i < shape.rows → j < shape.cols → has_column (part_at parts q) j ≡ true → at cells (place_in shape i j) ≡ entry_in parts i j
+PartsWrittenTo shape parts n cells = (q i j : ℕ) → q < n → i < shape.rows → j < shape.cols → has_column (part_at parts q) j ≡ true
+    → at cells (place_in shape i j) ≡ entry_in parts i j
 
-pub parts_step : (bits : ℕ) (shape : Shape) (parts : List LayoutPart) (n : ℕ) (old new : List ℤ) → IsWhole bits (layout_with shape.rows shape.cols parts) → n < length parts
+pub parts_step : (bits : ℕ) (shape : Shape) (parts : List LayoutPart) (n : ℕ) (old new : List ℤ)
+    → IsWhole bits (layout_with shape.rows shape.cols parts) → n < length parts
     → IsPartWritten shape (part_at parts n) old new → PartsWrittenTo shape parts n old → PartsWrittenTo shape parts (n + 1) new
 parts_step bits shape parts n old new whole there written so_far q i j lt row col has = elim (cases_eq q n) [
   | inl same ↦
@@ -35,25 +38,30 @@ parts_step bits shape parts n old new whole there written so_far q i j lt row co
   ]
 ]
 
-pub all_written : (bits : ℕ) (shape : Shape) (parts : List LayoutPart) (n : ℕ) (cells : List ℤ) → IsWhole bits (layout_with shape.rows shape.cols parts) → length parts ≤ n
+pub all_written : (bits : ℕ) (shape : Shape) (parts : List LayoutPart) (n : ℕ) (cells : List ℤ)
+    → IsWhole bits (layout_with shape.rows shape.cols parts) → length parts ≤ n
     → PartsWrittenTo shape parts n cells → AreEntries shape parts cells
 all_written bits shape parts n cells whole all written i j row col =
     let found = some_part shape.cols parts j whole.partition col in
     written found.0 i j (omega (arith, found.1, all)) row col found.2
 
 -- the written cells have the table's shape
-pub dense_shape : {X : Type 0} (bits : ℕ) (shape : Shape) (parts : List LayoutPart) (cells : List X) (r c : ℕ) → IsWhole bits (layout_with shape.rows shape.cols parts)
-    → length cells ≡ shape.rows * shape.cols → r ≡ cond shape.flipped shape.cols shape.rows → c ≡ cond shape.flipped shape.rows shape.cols → IsShaped r c cells
+pub dense_shape : {X : Type 0} (bits : ℕ) (shape : Shape) (parts : List LayoutPart) (cells : List X) (r c : ℕ)
+    → IsWhole bits (layout_with shape.rows shape.cols parts)
+    → length cells ≡ shape.rows * shape.cols → r ≡ cond shape.flipped shape.cols shape.rows → c ≡ cond shape.flipped shape.rows shape.cols
+    → IsShaped r c cells
 dense_shape bits shape parts cells r c whole count rows cols = elim (cases_Bool shape.flipped) [
   | inl flipped ↦
       let turned = mul_comm shape.rows shape.cols in
       rw ((rw flipped at rows), (rw flipped at cols))
       (record { a_row = whole.a_col; a_col = whole.a_row; count = omega (arith, count, turned); few = omega (arith, whole.few, turned) })
-  | inr plain ↦ rw ((rw plain at rows), (rw plain at cols)) (record { a_row = whole.a_row; a_col = whole.a_col; count = count; few = whole.few })
+  | inr plain ↦ rw ((rw plain at rows), (rw plain at cols))
+      (record { a_row = whole.a_row; a_col = whole.a_col; count = count; few = whole.few })
 ]
 
 -- and their matrix is that of the table
-pub dense_is : (bits : ℕ) (shape : Shape) (parts : List LayoutPart) (cells : List ℤ) (r c : ℕ) → IsWhole bits (layout_with shape.rows shape.cols parts) → length cells ≡ shape.rows * shape.cols
+pub dense_is : (bits : ℕ) (shape : Shape) (parts : List LayoutPart) (cells : List ℤ) (r c : ℕ)
+    → IsWhole bits (layout_with shape.rows shape.cols parts) → length cells ≡ shape.rows * shape.cols
     → AreEntries shape parts cells → r ≡ cond shape.flipped shape.cols shape.rows → c ≡ cond shape.flipped shape.rows shape.cols
     → record { rows = r; cols = c; cells = cells } ≡ matrix_as shape.flipped (layout_with shape.rows shape.cols parts)
 dense_is bits shape parts cells r c whole count written rows cols =
@@ -64,13 +72,15 @@ dense_is bits shape parts cells r c whole count written rows cols =
           let r_is : r ≡ shape.cols = rw flipped at rows in
           let c_is : c ≡ shape.rows = rw flipped at cols in
           let m : Matrix = record { rows = shape.cols; cols = shape.rows; cells = cells } in
-          let same : cells ≡ row_by_row shape.cols shape.rows (λ j i. entry (matrix_in base) i j) = same_matrix m (λ j i. entry (matrix_in base) i j) (rw (r_is, c_is) at shaped)
+          let same : cells ≡ row_by_row shape.cols shape.rows (λ j i. entry (matrix_in base) i j) =
+          same_matrix m (λ j i. entry (matrix_in base) i j) (rw (r_is, c_is) at shaped)
           (λ j i col row. (rw flipped at (written i j row col)) ∙ sym (entry_matrix_in base i j row col)) in
           rw (r_is, c_is, flipped) (ap (λ (cs : List ℤ). record { rows = shape.cols; cols = shape.rows; cells = cs }) same)
       | inr plain ↦
           let r_is : r ≡ shape.rows = rw plain at rows in
           let c_is : c ≡ shape.cols = rw plain at cols in
           let m : Matrix = record { rows = shape.rows; cols = shape.cols; cells = cells } in
-          let same : cells ≡ row_by_row shape.rows shape.cols (entry_in parts) = same_matrix m (entry_in parts) (rw (r_is, c_is) at shaped) (λ i j row col. rw plain at (written i j row col)) in
+          let same : cells ≡ row_by_row shape.rows shape.cols (entry_in parts) =
+          same_matrix m (entry_in parts) (rw (r_is, c_is) at shaped) (λ i j row col. rw plain at (written i j row col)) in
           rw (r_is, c_is, plain) (ap (λ (cs : List ℤ). record { rows = shape.rows; cols = shape.cols; cells = cs }) same)
     ]

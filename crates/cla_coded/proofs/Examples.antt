@@ -1,5 +1,5 @@
 -- Worked examples of the definitions: rows (1, 7, 2), (0, 7, 0), (0, 0, 0) and (1, 0, 2) in two parts.
-use Rattle.std.proofs.Common.{◌≡◌, ℕ, ℤ, pos, zero, suc, ◌<◌, List, [], ◌∷◌, length, slice_index_or, refl, true, arith}
+use Rattle.std.proofs.Common.{◌≡◌, ℕ, pos, zero, suc, ◌<◌, [], ◌∷◌, length, slice_index_or, refl, true, arith}
 use Rattle.cla_spec.specs.Numbers.{InRange}
 use Rattle.cla_group.specs.declared.kind.Kind.TheVariants.{Codes, Runs}
 use Rattle.cla_group.specs.Groups.{code_of, value_of, occurrences_of, IsGroup}
@@ -17,10 +17,12 @@ inner = record { columns = 1 ∷ []; codes = 0 ∷ 0 ∷ 1 ∷ 1 ∷ []; tuples 
 abbrev both : Layout
 both = record { rows = 4; cols = 3; parts = outer ∷ inner ∷ [] }
 
-pub cells_are : (matrix_in both).cells ≡ pos 1 ∷ pos 7 ∷ pos 2 ∷ pos 0 ∷ pos 7 ∷ pos 0 ∷ pos 0 ∷ pos 0 ∷ pos 0 ∷ pos 1 ∷ pos 0 ∷ pos 2 ∷ []
+pub cells_are : (matrix_in both).cells ≡ pos 1 ∷ pos 7 ∷ pos 2 ∷ pos 0 ∷ pos 7 ∷ pos 0 ∷ pos 0 ∷ pos 0 ∷ pos 0 ∷ pos 1 ∷ pos 0 ∷ pos 2 ∷
+    []
 cells_are = refl
 
-pub transposed_cells_are : (matrix_as true both).cells ≡ pos 1 ∷ pos 0 ∷ pos 0 ∷ pos 1 ∷ pos 7 ∷ pos 7 ∷ pos 0 ∷ pos 0 ∷ pos 2 ∷ pos 0 ∷ pos 0 ∷ pos 2 ∷ []
+pub transposed_cells_are : (matrix_as true both).cells
+    ≡ pos 1 ∷ pos 0 ∷ pos 0 ∷ pos 1 ∷ pos 7 ∷ pos 7 ∷ pos 0 ∷ pos 0 ∷ pos 2 ∷ pos 0 ∷ pos 0 ∷ pos 2 ∷ []
 transposed_cells_are = refl
 
 -- four rows of two tuples
@@ -103,7 +105,8 @@ kinds_are (suc (suc q)) there = absurd (omega (arith, there))
 -- both parts are in the form that packed files have
 pub both_is_canonical : IsCanonical 3 both (Codes ∷ Runs ∷ [])
 both_is_canonical = record {
-  whole = two_whole 3 both.parts outer.columns inner.columns outer.codes inner.codes outer.tuples inner.tuples 2 1 refl refl refl refl refl refl refl outer_is_group inner_is_group;
+  whole = two_whole 3 both.parts outer.columns inner.columns outer.codes inner.codes outer.tuples inner.tuples 2 1 refl refl refl refl
+      refl refl refl outer_is_group inner_is_group;
   a_kind_each = refl;
   in_order = in_order;
   numbered = numbered;
@@ -112,7 +115,12 @@ both_is_canonical = record {
 
 -- two equal tuples are not, whichever rows they have
 abbrev twins : Layout
-twins = record { rows = 2; cols = 1; parts = record { columns = 0 ∷ []; codes = 0 ∷ 1 ∷ []; tuples = (pos 7 ∷ []) ∷ (pos 7 ∷ []) ∷ [] } ∷ [] }
+twins = record {
+  rows = 2;
+  cols = 1;
+  parts = record { columns = 0 ∷ []; codes = 0 ∷ 1 ∷ []; tuples = (pos 7 ∷ []) ∷ (pos 7 ∷ []) ∷ [] } ∷
+      [];
+}
 
 pub twins_are_not_canonical : (bits : ℕ) → IsCanonical bits twins (Codes ∷ []) → ⊥
 twins_are_not_canonical bits is =

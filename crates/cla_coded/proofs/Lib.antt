@@ -1,6 +1,7 @@
 pub mod Columns
 pub mod Wholes
 pub mod PartSums
+pub mod Leasts
 pub mod PartFirsts
 pub mod PartValues
 pub mod Matrices

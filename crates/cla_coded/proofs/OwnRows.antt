@@ -14,15 +14,18 @@ used_below codes (suc n) used =
     let more = ap (below codes) next in
     omega (arith, more, below_more codes n, used n (omega arith), used_below codes n (λ k there. used k (omega (arith, there))))
 
-one_below : (codes : List ℕ) (n k : ℕ) → ((j : ℕ) → j < n → 0 < occurrences_of codes j) → k < n → n + occurrences_of codes k ≤ below codes n + 1
+one_below : (codes : List ℕ) (n k : ℕ) → ((j : ℕ) → j < n → 0 < occurrences_of codes j) → k < n
+    → n + occurrences_of codes k ≤ below codes n + 1
 one_below codes zero k used there = absurd (omega (arith, there))
 one_below codes (suc n) k used there =
     let next : suc n ≡ n + 1 = omega arith in
     let more = ap (below codes) next in
     let before : (j : ℕ) → j < n → 0 < occurrences_of codes j = λ j lt. used j (omega (arith, lt)) in
     elim (cases_eq k n) [
-      | inl same ↦ (let count = ap (occurrences_of codes) same in omega (arith, more, count, below_more codes n, used_below codes n before))
-      | inr other ↦ (let earlier : k < n = grind (arith, there, other) in omega (arith, more, below_more codes n, used n (omega arith), one_below codes n k before earlier))
+      | inl same ↦ (let count = ap (occurrences_of codes) same in
+          omega (arith, more, count, below_more codes n, used_below codes n before))
+      | inr other ↦ (let earlier : k < n = grind (arith, there, other) in
+          omega (arith, more, below_more codes n, used n (omega arith), one_below codes n k before earlier))
     ]
 
 -- so no code has two rows, and the first row of a row's code is the row

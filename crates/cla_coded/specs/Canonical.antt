@@ -8,7 +8,8 @@ use Rattle.cla_coded.specs.Layouts.{LayoutPart, Layout, IsWhole, part_at, column
 
 -- no two tuples are the same
 abbrev pub AreDistinct : List (List ℤ) → Type 0
-AreDistinct tuples = (k l : ℕ) → k < length tuples → l < length tuples → slice_index_or tuples k [] ≡ slice_index_or tuples l [] → k ≡ l
+AreDistinct tuples = (k l : ℕ) → k < length tuples → l < length tuples → slice_index_or tuples k []
+    ≡ slice_index_or tuples l [] → k ≡ l
 
 -- what a kind asks of a part: row i of a plain group has code i, and tuples of the others are distinct
 abbrev pub HasKind : Kind → LayoutPart → Type 0

@@ -53,8 +53,10 @@ pub record StandsFor (layout : Layout) (m : Matrix) : Type 0 where
   pub rows : m.rows ≡ layout.rows
   pub cols : m.cols ≡ layout.cols
   pub partition : IsPartition layout.cols (all_columns layout.parts)
-  pub entries : (q i c : ℕ) → q < length layout.parts → i < layout.rows → c < length (part_at layout.parts q).columns →
-      entry m i (column_at (part_at layout.parts q).columns c) ≡ cell_of (part_at layout.parts q).codes (part_at layout.parts q).tuples i c
+  pub entries : (q i c : ℕ) → q < length layout.parts → i < layout.rows
+      → c < length (part_at layout.parts q).columns →
+      entry m i (column_at (part_at layout.parts q).columns c)
+      ≡ cell_of (part_at layout.parts q).codes (part_at layout.parts q).tuples i c
 
 -- a part of a layout with so many rows: its columns rise, and its group has a value for each of them
 pub record IsPart (bits rows : ℕ) (part : LayoutPart) : Type 0 where
@@ -85,7 +87,12 @@ entry_in (part ∷ parts) i j = if has_column part j then value_in part i j else
 
 -- the matrix that a whole layout stands for
 abbrev pub matrix_in : Layout → Matrix
-matrix_in layout = record { rows = layout.rows; cols = layout.cols; cells = row_by_row layout.rows layout.cols (entry_in layout.parts) }
+matrix_in layout = record {
+  rows = layout.rows;
+  cols = layout.cols;
+  cells =
+      row_by_row layout.rows layout.cols (entry_in layout.parts);
+}
 
 abbrev pub transposed : Matrix → Matrix
 transposed m = record { rows = m.cols; cols = m.rows; cells = row_by_row m.cols m.rows (λ i j. entry m j i) }
@@ -107,5 +114,10 @@ abbrev pub loose_layout : Matrix → Layout
 loose_layout m = record {
   rows = m.rows;
   cols = m.cols;
-  parts = record { columns = range_with_len 0 m.cols; codes = range_with_len 0 m.rows; tuples = tuples_of m.cols m.rows m.cells } ∷ [];
+  parts = record {
+    columns = range_with_len 0 m.cols;
+    codes = range_with_len 0 m.rows;
+    tuples =
+        tuples_of m.cols m.rows m.cells;
+  } ∷ [];
 }

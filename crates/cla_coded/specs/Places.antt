@@ -22,12 +22,14 @@ pub record IsPartOf (bits : ℕ) (shape : Shape) (part : LayoutPart) : Type 0 wh
 abbrev pub IsRowWritten : Shape → LayoutPart → ℕ → ℕ → List ℤ → List ℤ → Type 0
 IsRowWritten shape part k i old new = (r j : ℕ) → r < shape.rows → j < shape.cols →
     at new (place_in shape r j)
-    ≡ (if r == i && has_column part j then value_of part.tuples k (index_of part.columns j) else at old (place_in shape r j))
+    ≡ (if r == i && has_column part j then value_of part.tuples k (index_of part.columns j) else at old
+    (place_in shape r j))
 
 -- the columns of a part hold its values in the rows that pass a test; all other cells hold what they held
 abbrev pub AreRowsWritten : (ℕ → Bool) → Shape → LayoutPart → List ℤ → List ℤ → Type 0
 AreRowsWritten test shape part old new = (r j : ℕ) → r < shape.rows → j < shape.cols →
-    at new (place_in shape r j) ≡ (if test r && has_column part j then value_in part r j else at old (place_in shape r j))
+    at new (place_in shape r j) ≡ (if test r && has_column part j then value_in part r j else at old
+    (place_in shape r j))
 
 -- the same in all rows
 abbrev pub IsPartWritten : Shape → LayoutPart → List ℤ → List ℤ → Type 0
@@ -35,4 +37,5 @@ IsPartWritten shape part old new = AreRowsWritten (λ r. true) shape part old ne
 
 -- the cells are the entries of these parts
 abbrev pub AreEntries : Shape → List LayoutPart → List ℤ → Type 0
-AreEntries shape parts cells = (i j : ℕ) → i < shape.rows → j < shape.cols → at cells (place_in shape i j) ≡ entry_in parts i j
+AreEntries shape parts cells = (i j : ℕ) → i < shape.rows → j < shape.cols → at cells (place_in shape i j)
+    ≡ entry_in parts i j

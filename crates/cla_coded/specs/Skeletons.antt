@@ -33,4 +33,10 @@ abbrev pub view_of_part : SkeletonPart → PartSkeletonOf
 view_of_part part = record { columns = part.columns.items; codes = part.codes.items }
 
 abbrev pub view_of : Skeleton → SkeletonOf
-view_of skeleton = record { rows = skeleton.rows; cols = skeleton.cols; flipped = skeleton.flipped; parts = map view_of_part skeleton.parts.items }
+view_of skeleton = record {
+  rows = skeleton.rows;
+  cols = skeleton.cols;
+  flipped = skeleton.flipped;
+  parts =
+      map view_of_part skeleton.parts.items;
+}

@@ -100,7 +100,8 @@ fn borrowed_part<'a, N: Number, G: Group<N>>(
     alloc: Global,
     part: &'a Part<G>,
 ) -> Result<Part<Mapped<'a, N, G>>, Memory>
-    ensures { IfOk result (λ p. outline (λ m. m.dictionary.width) (λ m. G.codes m.of.now) p ≡ outline G.columns G.codes part.now) }
+    ensures { let old = outline G.columns G.codes part.now in
+        IfOk result (λ p. outline (λ m. m.dictionary.width) (λ m. G.codes m.of.now) p ≡ old) }
 {
     let columns = Vec::from_slice(alloc, &part.columns)?;
     let dictionary = dictionary_like(alloc, &part.group)?;

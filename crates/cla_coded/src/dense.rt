@@ -45,7 +45,8 @@ pub(crate) fn cells_of<N: Number, G: Group<N>>(
 ) -> Result<Vec<N>, Memory>
     requires { IsWhole N.BITS (layout_with shape.rows shape.cols (parts_of G.codes G.dictionary parts.now)) }
     ensures count { IfOk result (λ cells. length cells.items ≡ shape.rows * shape.cols) }
-    ensures entries { IfOk result (λ cells. AreEntries shape (parts_of G.codes G.dictionary parts.now) (map N.value cells.items)) }
+    ensures entries { let base = parts_of G.codes G.dictionary parts.now in
+        IfOk result (λ cells. AreEntries shape base (map N.value cells.items)) }
 {
     let rows = shape.rows as usize;
     let mut cells = Vec::from_elem(alloc, first, rows * shape.cols as usize)?;
@@ -82,7 +83,8 @@ fn write_part<N: Number, G: Group<N>>(
     requires part { IsPartOf N.BITS shape (part_of G.codes G.dictionary part.now) }
     requires codes { length codes.old ≡ shape.rows }
     requires cells { HasCells shape cells.old }
-    ensures { IsPartWritten shape (part_of G.codes G.dictionary part.now) (map N.value cells.old) (map N.value cells.new) }
+    ensures { let p = part_of G.codes G.dictionary part.now in
+        IsPartWritten shape p (map N.value cells.old) (map N.value cells.new) }
 {
     if part.group.tuples() == shape.rows {
         write_tuples(part, shape, cells);
@@ -97,7 +99,8 @@ fn write_tuples<N: Number, G: Group<N>>(part: &Part<G>, shape: Shape, cells: &mu
     requires part { IsPartOf N.BITS shape (part_of G.codes G.dictionary part.now) }
     requires own { length (G.dictionary part.now.group) ≡ shape.rows }
     requires cells { HasCells shape cells.old }
-    ensures { IsPartWritten shape (part_of G.codes G.dictionary part.now) (map N.value cells.old) (map N.value cells.new) }
+    ensures { let p = part_of G.codes G.dictionary part.now in
+        IsPartWritten shape p (map N.value cells.old) (map N.value cells.new) }
 {
     for k in 0..shape.rows {
         write_row(part, k, part.group.first_row(k), shape, cells);
@@ -109,7 +112,8 @@ fn write_rows<N: Number, G: Group<N>>(part: &Part<G>, codes: &[u32], shape: Shap
     requires part { IsPartOf N.BITS shape (part_of G.codes G.dictionary part.now) }
     requires codes { codes.now ≡ G.codes part.now.group }
     requires cells { HasCells shape cells.old }
-    ensures { IsPartWritten shape (part_of G.codes G.dictionary part.now) (map N.value cells.old) (map N.value cells.new) }
+    ensures { let p = part_of G.codes G.dictionary part.now in
+        IsPartWritten shape p (map N.value cells.old) (map N.value cells.new) }
 {
     for i in 0..shape.rows {
         write_row(part, codes[i as usize], i, shape, cells);
@@ -122,7 +126,8 @@ fn write_row<N: Number, G: Group<N>>(part: &Part<G>, k: u32, i: u32, shape: Shap
     requires tuple { k < length (G.dictionary part.now.group) }
     requires row { i < shape.rows }
     requires cells { HasCells shape cells.old }
-    ensures { IsRowWritten shape (part_of G.codes G.dictionary part.now) k i (map N.value cells.old) (map N.value cells.new) }
+    ensures { let p = part_of G.codes G.dictionary part.now in
+        IsRowWritten shape p k i (map N.value cells.old) (map N.value cells.new) }
 {
     for c in 0..part.group.width() {
         cells[shape.place(i, part.columns[c as usize])] = part.group.value(k, c);

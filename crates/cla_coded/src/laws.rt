@@ -2,7 +2,8 @@
 
 ghost use Rattle.cla_coded.specs.Laws.{LayoutsStand, LayoutsStandForOne, TransposedTwice, LooseStands};
 ghost use Rattle.cla_coded.specs.Laws.{RowsSumByParts, SumsByParts, SumsTranspose};
-ghost use Rattle.cla_coded.specs.Laws.{FirstPlacesByParts, FirstPlacesTranspose, ExtremesByParts, ExtremesTranspose};
+ghost use Rattle.cla_coded.specs.Laws.{FirstPlacesByParts, FirstPlacesTranspose, FaultsByParts, FaultsTranspose};
+ghost use Rattle.cla_coded.specs.Laws.{ExtremesByParts, ExtremesTranspose};
 ghost use Rattle.cla_coded.specs.Laws.{ValuesAreFew, CodesCountTuples};
 
 /// A whole layout stands for a matrix that is well made: the entry in each column is the value in the
@@ -50,6 +51,17 @@ pub fn first_places_by_parts()
 /// The first place of a matrix is that of its transpose, at which the places are exchanged.
 pub fn first_places_transpose()
     ensures { FirstPlacesTranspose }
+{}
+
+/// The first fault, with its place and what is wrong there, is the first of those of the parts. There is
+/// none where no part has one.
+pub fn faults_by_parts()
+    ensures { FaultsByParts }
+{}
+
+/// The first fault of a matrix is that of its transpose, at which the places are exchanged.
+pub fn faults_transpose()
+    ensures { FaultsTranspose }
 {}
 
 /// The least or the greatest entry is that of the tuples of all parts.

@@ -6,10 +6,15 @@ use Rattle.cla_coded.proofs.borrowed.borrowed_table.Goals as goal
 pub loop-part-preserved : goal.loop-part-preserved
 loop-part-preserved g c =
     rw c.in_ok-push.ensures.items
-    (mapped_more (outline g.G.Group.columns g.G.Group.codes) (outline (λ p. p.dictionary.width) (λ p. g.G.Group.codes p.of.now)) c.parts-part-items.result.now c.loop-part.part-index c.part-item.result
-    c.loop-part.parts.items c.in_ok-borrowed_part.field-0 c.loop-part-test.true c.part-item.is c.loop-part.invariant c.in_ok-borrowed_part.ensures)
+    (mapped_more (outline g.G.Group.columns g.G.Group.codes)
+    (outline (λ p. p.dictionary.width) (λ p. g.G.Group.codes p.of.now)) c.parts-part-items.result.now c.loop-part.part-index
+    c.part-item.result
+    c.loop-part.parts.items c.in_ok-borrowed_part.field-0 c.loop-part-test.true c.part-item.is c.loop-part.invariant
+    c.in_ok-borrowed_part.ensures)
 
 pub with_parts-requires : goal.with_parts-requires
 with_parts-requires g c =
-    mapped_all (outline g.G.Group.columns g.G.Group.codes) (outline (λ p. p.dictionary.width) (λ p. g.G.Group.codes p.of.now)) c.parts-part-items.result.now c.loop-part.part-index c.loop-part.parts.items
+    mapped_all (outline g.G.Group.columns g.G.Group.codes)
+    (outline (λ p. p.dictionary.width) (λ p. g.G.Group.codes p.of.now)) c.parts-part-items.result.now c.loop-part.part-index
+    c.loop-part.parts.items
     c.loop-part-test.false c.loop-part.invariant ∙ ap (map (outline g.G.Group.columns g.G.Group.codes)) c.parts-part-items.ensures.parts

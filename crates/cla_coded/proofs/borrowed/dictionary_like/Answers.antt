@@ -13,7 +13,8 @@ new-dictionary-requires g c =
     let values = c.in_ok-values.values in
     let items : vec_len values ≡ length values.items = search rules in
     let count : length values.items ≡ c.tuples.result * c.width.result = omega (arith, items, c.in_ok-values.ensures.len) in
-    let size : length values.items ≡ length (g.G.Group.dictionary c.args.g.now) * g.G.Group.columns c.args.g.now = rw (c.width.ensures, c.tuples.ensures) at count in
+    let size : length values.items ≡ length (g.G.Group.dictionary c.args.g.now) * g.G.Group.columns c.args.g.now =
+    rw (c.width.ensures, c.tuples.ensures) at count in
     rw (c.width-2.ensures, c.tuples-2.ensures)
     (record {
       a_column = is.a_column;
@@ -24,4 +25,5 @@ new-dictionary-requires g c =
 
 pub returns-clause-count : goal.returns-clause-count
 returns-clause-count g c =
-    ap (λ (d : DictionaryOf). length d.tuples) c.new-dictionary.ensures ∙ tuples_count c.width-2.result c.tuples-2.result (map g.N.Number.value c.in_ok-values.values.items) ∙ c.tuples-2.ensures
+    ap (λ (d : DictionaryOf). length d.tuples) c.new-dictionary.ensures
+    ∙ tuples_count c.width-2.result c.tuples-2.result (map g.N.Number.value c.in_ok-values.values.items) ∙ c.tuples-2.ensures

@@ -1,8 +1,8 @@
-use Rattle.std.proofs.Common.{◌≡◌, ◌<◌, length, map, ap, ◌∙◌, arith}
-use Rattle.std.proofs.lemmas.List.{map-set, length-map, get_or_default}
+use Rattle.std.proofs.Common.{◌≡◌, ◌<◌, length, map, ◌∙◌, arith}
+use Rattle.std.proofs.lemmas.List.{map-set, length-map}
 use Rattle.cla_group.specs.Groups.{value_of}
 use Rattle.cla_coded.specs.Layouts.{column_at}
-use Rattle.cla_coded.specs.Places.{place_in}
+use Rattle.cla_coded.proofs.Columns.{column_read}
 use Rattle.cla_coded.proofs.CellPlaces.{column_step}
 use Rattle.cla_coded.proofs.Wholes.{same_width}
 use Rattle.cla_coded.proofs.dense.write_row.Goals as goal
@@ -14,8 +14,11 @@ loop-c-preserved g c =
     let value = g.N.Number.value in
     let width = same_width _ _ _ _ _ c.requires.part.is.group (g.met.G.Group.laws part.group) in
     let there : c.loop-c.c < length columns = omega (arith, width, c.loop-c-test.true, c.width-c-end.ensures) in
-    let column : c.index.result.now ≡ column_at columns c.loop-c.c = c.index.ensures ∙ get_or_default columns c.loop-c.c c.index.result.now 0 there in
+    let column : c.index.result.now ≡ column_at columns c.loop-c.c =
+    column_read columns c.loop-c.c c.index.result.now c.index.ensures there in
     rw (map-set value c.loop-c.cells c.place.result c.value.result)
-    (column_step c.args.shape columns (value_of (g.G.Group.dictionary part.group) c.args.k) c.args.i c.loop-c.c c.place.result (value c.value.result) (map value c.args.cells.now) (map value c.loop-c.cells)
-    c.requires.part.is.rising there c.requires.row (c.requires.part.columns c.loop-c.c there) (c.place.ensures.place ∙ ap (place_in c.args.shape c.args.i) column) c.value.ensures
+    (column_step c.args.shape columns (value_of (g.G.Group.dictionary part.group) c.args.k) c.args.i c.loop-c.c c.place.result
+    (value c.value.result) (map value c.args.cells.now) (map value c.loop-c.cells)
+    c.requires.part.is.rising there c.requires.row (c.requires.part.columns c.loop-c.c there)
+    (rw column at c.place.ensures.place) c.value.ensures
     (length-map c.loop-c.cells value ∙ c.loop-c.auto.cells ∙ c.requires.cells.count) c.loop-c.invariant)

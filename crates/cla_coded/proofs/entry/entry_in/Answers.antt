@@ -1,4 +1,4 @@
-use Rattle.std.proofs.Common.{sym, ◌∙◌, arith, inl, inr}
+use Rattle.std.proofs.Common.{arith, inl, inr}
 use Rattle.std.proofs.lemmas.Bool.{cases_eq}
 use Rattle.cla_coded.specs.Parts.{parts_of}
 use Rattle.cla_coded.proofs.Columns.{entry_at, nowhere_listed, part_of_item, parts_count}
@@ -10,7 +10,8 @@ value_in-requires-clause-part g c =
     let dictionary_of = g.G.Group.dictionary in
     let parts = c.args.parts.now in
     let is = part_of_item codes_of dictionary_of parts c.loop-part.part-index c.part-item.result c.loop-part-test.true c.part-item.is in
-    let part = rw is at (c.requires.2.each c.loop-part.part-index (rw (parts_count codes_of dictionary_of parts) c.loop-part-test.true)) in
+    let part = rw is at (c.requires.2.each c.loop-part.part-index (rw (parts_count codes_of dictionary_of parts) c.loop-part-test.true))
+    in
     rw part.a_code_each part
 
 pub value_in-requires-clause-row : goal.value_in-requires-clause-row
@@ -19,7 +20,8 @@ value_in-requires-clause-row g c =
     let dictionary_of = g.G.Group.dictionary in
     let parts = c.args.parts.now in
     let is = part_of_item codes_of dictionary_of parts c.loop-part.part-index c.part-item.result c.loop-part-test.true c.part-item.is in
-    let part = rw is at (c.requires.2.each c.loop-part.part-index (rw (parts_count codes_of dictionary_of parts) c.loop-part-test.true)) in
+    let part = rw is at (c.requires.2.each c.loop-part.part-index (rw (parts_count codes_of dictionary_of parts) c.loop-part-test.true))
+    in
     omega (arith, part.a_code_each, c.requires.3)
 
 pub returns-in-Some : goal.returns-in-Some
@@ -28,8 +30,9 @@ returns-in-Some g c =
     let dictionary_of = g.G.Group.dictionary in
     let parts = c.args.parts.now in
     let is = part_of_item codes_of dictionary_of parts c.loop-part.part-index c.part-item.result c.loop-part-test.true c.part-item.is in
-    let entry = entry_at (parts_of codes_of dictionary_of parts) c.loop-part.part-index c.args.i c.args.j (rw (parts_count codes_of dictionary_of parts) c.loop-part-test.true) c.loop-part.invariant (rw is c.in-Some.ensures.0) in
-    c.in-Some.ensures.1 ∙ sym (rw is at entry)
+    let entry = entry_at (parts_of codes_of dictionary_of parts) c.loop-part.part-index c.args.i c.args.j
+    (rw (parts_count codes_of dictionary_of parts) c.loop-part-test.true) c.loop-part.invariant (rw is c.in-Some.ensures.0) in
+    rw (entry, is) c.in-Some.ensures.1
 
 pub loop-part-preserved : goal.loop-part-preserved
 loop-part-preserved g c q lt =
