@@ -1,0 +1,5 @@
+pub mod MachineComplete
+pub mod MachineSound
+pub mod MachineLive
+pub mod PowersAndSpans
+pub mod FirstRefused
