@@ -1,0 +1,4 @@
+pub mod AsciiWords
+pub mod DigitValues
+pub mod FirstBytes
+pub mod WordTable

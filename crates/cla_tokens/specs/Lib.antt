@@ -1,0 +1,6 @@
+pub mod Values
+pub mod Words
+pub mod Pieces
+pub mod View
+pub mod Items
+pub mod Scripts
