@@ -3,3 +3,4 @@ pub mod MachineSound
 pub mod MachineLive
 pub mod PowersAndSpans
 pub mod FirstRefused
+pub mod CanonicalLength

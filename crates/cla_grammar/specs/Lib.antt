@@ -5,3 +5,4 @@ pub mod Machine
 pub mod Faults
 pub mod Reader
 pub mod Laws
+pub mod Canonical

@@ -2,3 +2,4 @@ pub mod AsciiWords
 pub mod DigitValues
 pub mod FirstBytes
 pub mod WordTable
+pub mod FormedMachine

@@ -4,3 +4,4 @@ pub mod Pieces
 pub mod View
 pub mod Items
 pub mod Scripts
+pub mod Formed
