@@ -40,7 +40,7 @@ same_faults v w k [] = refl
 same_faults v w k (x ∷ xs) =
     ap (λ (r : Result Scope Fault). onward r (λ (n : Scope). shape_fault_after n (statements_of v xs))) (same_after v w k x)
     ∙ onward_same (after k (statement_of w x)) (λ (n : Scope). shape_fault_after n (statements_of v xs))
-        (λ (n : Scope). shape_fault_after n (statements_of w xs)) (λ n. same_faults v w n xs)
+    (λ (n : Scope). shape_fault_after n (statements_of w xs)) (λ n. same_faults v w n xs)
 
 none_is : (f : Option Fault) → is_none f ≡ true → f ≡ None
 none_is None h = refl
@@ -54,4 +54,4 @@ pub has_no_fault : {N : Type 0} (value : N → ℤ) (xs : List (Statement N)) (i
     → first_shape_fault (statements_of value xs) inputs ≡ None
 has_no_fault {N} value xs inputs h =
     same_faults value (λ (n : N). pos 0) (record { names = []; inputs = inputs }) xs
-        ∙ none_is (first_shape_fault (bare_trees xs) inputs) h
+    ∙ none_is (first_shape_fault (bare_trees xs) inputs) h

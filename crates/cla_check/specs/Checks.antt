@@ -19,7 +19,7 @@ inputs_of c = c.inputs.items
 abbrev pub Checks : {N : Type 0} → (N → ℤ) → Script N → List Shape → Result (Checked N) ShapeFault → Type 0
 Checks value s inputs (Ok c) =
     (first_shape_fault (statements_of value s.statements.items) inputs ≡ None)
-        × ((script_of c ≡ s) × (inputs_of c ≡ inputs))
+    × ((script_of c ≡ s) × (inputs_of c ≡ inputs))
 Checks value s inputs (Err Memory) = Unit {0}
 Checks value s inputs (Err (At p k)) =
     first_shape_fault (statements_of value s.statements.items) inputs ≡ Some (record { place = p; kind = k })

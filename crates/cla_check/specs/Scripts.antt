@@ -28,12 +28,12 @@ pub record Scope : Type 0 where
   pub inputs : List Shape
 
 abbrev pub assigned : Scope → List ℕ → ValueShape → Scope
-assigned k n v = record { names = k.names ++ (n , v) ∷ []; inputs = k.inputs }
+assigned k n v = record { names = k.names ++ (n, v) ∷ []; inputs = k.inputs }
 
 -- a table that is read takes the next shape
 abbrev pub with_read : Scope → List ℕ → List Shape → Scope
 with_read k n [] = k
-with_read k n (s ∷ rest) = record { names = k.names ++ (n , Matrix s) ∷ []; inputs = rest }
+with_read k n (s ∷ rest) = record { names = k.names ++ (n, Matrix s) ∷ []; inputs = rest }
 
 -- what is known after a statement, or its first fault
 abbrev pub after : Scope → Statement → Result Scope Fault

@@ -18,7 +18,11 @@ use std::alloc::Global;
 /// expression has a shape. Refused at the first fault: statements in their order, operands before
 /// operators, and at one operator `Operand`, `Shapes`, `Bounds` and `TooLarge` in this order. Its time
 /// grows with the length of the script times the number of its assignments.
-pub fn check<N: Number + Drop>(alloc: Global, s: Script<N>, inputs: &[Shape]) -> Result<Checked<N>, ShapeFault>
+pub fn check<N: Number + Drop>(
+    alloc: Global,
+    s: Script<N>,
+    inputs: &[Shape],
+) -> Result<Checked<N>, ShapeFault>
     requires few { vec_len s.statements < 2 ^ 32 }
     requires formed { AllFormed (statements_of N.value s.statements.items) }
     requires one_each { length inputs.now ≡ reads_in (statements_of N.value s.statements.items) }

@@ -29,7 +29,10 @@ pub fn shape_of<N: Number>(names: &[Assigned], e: &Expr<N>) -> Result<ValueShape
         Expr::Number { .. } => Ok(ValueShape::Scalar),
         Expr::Named { place, name } => match name_shape(names, name) {
             Some(shape) => Ok(shape),
-            None => Err(Fault { place: *place, kind: ShapeKind::Unknown }),
+            None => Err(Fault {
+                place: *place,
+                kind: ShapeKind::Unknown,
+            }),
         },
         Expr::Neg { a, .. } | Expr::Square { a, .. } => shape_of(names, a),
         Expr::Binary { place, op, a, b } => {
@@ -46,7 +49,12 @@ pub fn shape_of<N: Number>(names: &[Assigned], e: &Expr<N>) -> Result<ValueShape
             let y = shape_of(names, b)?;
             bind_shape(*place, *bind, x, y)
         }
-        Expr::Slice { place, a, rows, cols } => {
+        Expr::Slice {
+            place,
+            a,
+            rows,
+            cols,
+        } => {
             let x = shape_of(names, a)?;
             slice_shape(*place, x, *rows, *cols)
         }

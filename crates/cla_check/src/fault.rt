@@ -42,7 +42,10 @@ impl From<Fault> for ShapeFault {
     ghost from_gives = { λ f e. e ≡ fault.At f.place f.kind };
 
     fn from(fault: Fault) -> ShapeFault {
-        ShapeFault::At { place: fault.place, kind: fault.kind }
+        ShapeFault::At {
+            place: fault.place,
+            kind: fault.kind,
+        }
     }
 }
 

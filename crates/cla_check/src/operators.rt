@@ -14,7 +14,10 @@ pub fn matrix_of(place: Place, a: ValueShape) -> Result<Shape, Fault>
 {
     match a {
         ValueShape::Matrix(shape) => Ok(shape),
-        ValueShape::Scalar => Err(Fault { place, kind: ShapeKind::Operand }),
+        ValueShape::Scalar => Err(Fault {
+            place,
+            kind: ShapeKind::Operand,
+        }),
     }
 }
 
@@ -23,9 +26,15 @@ fn sized(place: Place, rows: u64, cols: u64) -> Result<ValueShape, Fault>
     ensures { result ≡ sized place rows cols }
 {
     if u64::from(MOST_LINES) < rows || u64::from(MOST_LINES) < cols || MOST_CELLS < rows * cols {
-        return Err(Fault { place, kind: ShapeKind::TooLarge });
+        return Err(Fault {
+            place,
+            kind: ShapeKind::TooLarge,
+        });
     }
-    Ok(ValueShape::Matrix(Shape { rows: rows as u32, cols: cols as u32 }))
+    Ok(ValueShape::Matrix(Shape {
+        rows: rows as u32,
+        cols: cols as u32,
+    }))
 }
 
 /// The shape of a cell operator's result.
@@ -39,7 +48,10 @@ pub fn cell_shape(place: Place, a: ValueShape, b: ValueShape) -> Result<ValueSha
             if x.cols == y.cols && (x.rows == y.rows || (1 < x.rows && y.rows == 1)) {
                 Ok(a)
             } else {
-                Err(Fault { place, kind: ShapeKind::Shapes })
+                Err(Fault {
+                    place,
+                    kind: ShapeKind::Shapes,
+                })
             }
         }
     }
@@ -52,7 +64,10 @@ pub fn product_shape(place: Place, a: ValueShape, b: ValueShape) -> Result<Value
     let a = matrix_of(place, a)?;
     let b = matrix_of(place, b)?;
     if a.cols != b.rows {
-        return Err(Fault { place, kind: ShapeKind::Shapes });
+        return Err(Fault {
+            place,
+            kind: ShapeKind::Shapes,
+        });
     }
     sized(place, u64::from(a.rows), u64::from(b.cols))
 }
@@ -63,15 +78,29 @@ pub fn call_shape(place: Place, call: Call, a: ValueShape) -> Result<ValueShape,
 {
     let Shape { rows, cols } = matrix_of(place, a)?;
     match call {
-        Call::Transpose => Ok(ValueShape::Matrix(Shape { rows: cols, cols: rows })),
+        Call::Transpose => Ok(ValueShape::Matrix(Shape {
+            rows: cols,
+            cols: rows,
+        })),
         Call::Sum | Call::Min | Call::Max | Call::Nrow | Call::Ncol => Ok(ValueShape::Scalar),
-        Call::RowSums | Call::RowMins | Call::RowMaxs => Ok(ValueShape::Matrix(Shape { rows, cols: 1 })),
-        Call::ColSums | Call::ColMins | Call::ColMaxs => Ok(ValueShape::Matrix(Shape { rows: 1, cols })),
+        Call::RowSums | Call::RowMins | Call::RowMaxs => Ok(ValueShape::Matrix(Shape {
+            rows,
+            cols: 1,
+        })),
+        Call::ColSums | Call::ColMins | Call::ColMaxs => Ok(ValueShape::Matrix(Shape {
+            rows: 1,
+            cols,
+        })),
     }
 }
 
 /// The shape of two matrices side by side, or one above the other.
-pub fn bind_shape(place: Place, bind: Bind, a: ValueShape, b: ValueShape) -> Result<ValueShape, Fault>
+pub fn bind_shape(
+    place: Place,
+    bind: Bind,
+    a: ValueShape,
+    b: ValueShape,
+) -> Result<ValueShape, Fault>
     ensures { result ≡ bind_shape place bind a b }
 {
     let a = matrix_of(place, a)?;
@@ -79,15 +108,29 @@ pub fn bind_shape(place: Place, bind: Bind, a: ValueShape, b: ValueShape) -> Res
     match bind {
         Bind::Columns => {
             if a.rows != b.rows {
-                return Err(Fault { place, kind: ShapeKind::Shapes });
+                return Err(Fault {
+                    place,
+                    kind: ShapeKind::Shapes,
+                });
             }
-            sized(place, u64::from(a.rows), u64::from(a.cols) + u64::from(b.cols))
+            sized(
+                place,
+                u64::from(a.rows),
+                u64::from(a.cols) + u64::from(b.cols),
+            )
         }
         Bind::Rows => {
             if a.cols != b.cols {
-                return Err(Fault { place, kind: ShapeKind::Shapes });
+                return Err(Fault {
+                    place,
+                    kind: ShapeKind::Shapes,
+                });
             }
-            sized(place, u64::from(a.rows) + u64::from(b.rows), u64::from(a.cols))
+            sized(
+                place,
+                u64::from(a.rows) + u64::from(b.rows),
+                u64::from(a.cols),
+            )
         }
     }
 }
@@ -98,11 +141,13 @@ fn span_size(span: Span, size: u32) -> Option<u32>
 {
     match span {
         Span::All => Some(size),
-        Span::One { n } => {
-            if 1 <= n && n <= size { Some(1) } else { None }
-        }
+        Span::One { n } => { if 1 <= n && n <= size { Some(1) } else { None } }
         Span::Pair { first, last } => {
-            if 1 <= first && first <= last && last <= size { Some(last - first + 1) } else { None }
+            if 1 <= first && first <= last && last <= size {
+                Some(last - first + 1)
+            } else {
+                None
+            }
         }
     }
 }
@@ -114,6 +159,9 @@ pub fn slice_shape(place: Place, a: ValueShape, rows: Span, cols: Span) -> Resul
     let a = matrix_of(place, a)?;
     match (span_size(rows, a.rows), span_size(cols, a.cols)) {
         (Some(rows), Some(cols)) => Ok(ValueShape::Matrix(Shape { rows, cols })),
-        _ => Err(Fault { place, kind: ShapeKind::Bounds }),
+        _ => Err(Fault {
+            place,
+            kind: ShapeKind::Bounds,
+        }),
     }
 }

@@ -32,8 +32,14 @@ impl<'a> Scope<'a> {
         match statement {
             Statement::Read { name, .. } => match inputs {
                 [shape, rest @ ..] => {
-                    names.push(Assigned { name, shape: ValueShape::Matrix(*shape) })?;
-                    Ok(Scope { names, inputs: rest })
+                    names.push(Assigned {
+                        name,
+                        shape: ValueShape::Matrix(*shape),
+                    })?;
+                    Ok(Scope {
+                        names,
+                        inputs: rest,
+                    })
                 }
                 [] => Ok(Scope { names, inputs }),
             },
@@ -63,7 +69,10 @@ pub fn check_shapes<N: Number>(
 ) -> Result<(), ShapeFault>
     ensures { Finds result (first_shape_fault (statements_of N.value statements.now) inputs.now) }
 {
-    let mut scope = Scope { names: Vec::new(alloc), inputs };
+    let mut scope = Scope {
+        names: Vec::new(alloc),
+        inputs,
+    };
     for statement in statements {
         scope = match scope.take(statement) {
             Ok(scope) => scope,

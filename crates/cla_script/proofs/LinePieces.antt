@@ -41,7 +41,7 @@ at_token p line n col [] e h one same = absurd (omega arith)
 at_token p line n col (b ∷ bs) e h one same =
     ap (λ (q : Piece). items_of q (place_at line col) (items_from line (after_first q) (col + 1) bs)) same
     ∙ ap (λ (l : List Item). items_of p (place_at line col) l) (skipped line (after_first p) (col + 1) bs (omega arith)
-        ∙ rest_same line (after_first p) n col b bs e)
+    ∙ rest_same line (after_first p) n col b bs e)
 
 -- the items from a place of a line on, where its piece is known
 pub cut : (p : Piece) (line n at : ℕ) (bytes bs : List ℕ) → bs ≡ drop at bytes → at < length bytes → after_first p + 1 ≡ n

@@ -14,8 +14,12 @@ abbrev pub statements_of : {N : Type 0} → (N → ℤ) → List (Statement N) �
 statements_of value xs = map (statement_of value) xs
 
 abbrev pub reading_of : {N : Type 0} → (N → ℤ) → Reader N → Reading
-reading_of value r = record { count = r.count; state = state_of value r.builder; statements =
-    statements_of value r.statements.items }
+reading_of value r = record {
+  count = r.count;
+  state = state_of value r.builder;
+  statements =
+      statements_of value r.statements.items;
+}
 
 abbrev pub Reads : {N : Type 0} → (N → ℤ) → Result (Reader N) ScriptFault → Result Reading faults.Fault → Type 0
 Reads value (Ok r) t = t ≡ Ok (reading_of value r)

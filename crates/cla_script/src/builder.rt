@@ -6,7 +6,7 @@ ghost use Rattle.cla_grammar.specs.Machine.{finish};
 ghost use Rattle.cla_grammar.specs.Reader.{test, waits};
 ghost use Rattle.cla_num.specs.Bits.{IsSupported};
 ghost use Rattle.cla_tokens.specs.View.{token_of};
-ghost use Rattle.cla_script.specs.Takes.{state_of, Joins, Tells};
+ghost use Rattle.cla_script.specs.Takes.{Joins, phase_of, state_of, Tells};
 
 use crate::expr::{Expr, Span, Statement};
 use crate::expressions::{have, two, want, want_open};
@@ -78,11 +78,18 @@ pub struct Builder<N> {
 }
 
 impl<N: Number + Drop> Builder<N> {
+    /// These frames are open, and this comes next.
+    pub fn from_parts(frames: Vec<Frame<N>>, phase: Phase<N>) -> Builder<N>
+        ensures { state_of N.value result ≡ phase_of N.value frames.items phase }
+    {
+        Builder { frames, phase }
+    }
+
     /// No token yet. It takes no memory.
     pub fn new(alloc: Global) -> Builder<N>
         ensures { state_of N.value result ≡ machine.Start }
     {
-        Builder { frames: Vec::new(alloc), phase: Phase::Start }
+        Builder::from_parts(Vec::new(alloc), Phase::Start)
     }
 
     /// Whether the last token is `^`.
@@ -104,12 +111,16 @@ impl<N: Number + Drop> Builder<N> {
             Phase::Want => want(alloc, frames, token),
             Phase::WantOpen => want_open(frames, token),
             Phase::Have(sliceable, tree) => have(alloc, frames, sliceable, tree, token),
-            Phase::InSpan(at, tree, part, seen) => in_span(alloc, frames, at, tree, part, seen, token),
+            Phase::InSpan(at, tree, part, seen) => in_span(
+                alloc, frames, at, tree, part, seen, token,
+            ),
             Phase::WantTwo(at, tree) => two(alloc, frames, at, tree, token),
             Phase::ReadOpen(name) => read_open(frames, name, token),
             Phase::ReadText(name) => read_text(alloc, frames, name, token),
             Phase::ReadClose(name, file) => read_close(frames, name, file, token),
-            Phase::FileText(word, place, tree) => file_text(alloc, frames, word, place, tree, token),
+            Phase::FileText(word, place, tree) => file_text(
+                alloc, frames, word, place, tree, token,
+            ),
             Phase::FileClose(word, place, tree, file_place, file) => {
                 file_close(frames, word, place, tree, file_place, file, token)
             }

@@ -31,9 +31,21 @@ pub fn clash<N: Number>(s: &Script<N>) -> Result<(), ScriptFault>
 {
     for statement in &s.statements {
         match statement {
-            Statement::Write { file, file_place, .. } | Statement::Pack { file, file_place, .. } => {
+            Statement::Write {
+                file,
+                file_place,
+                ..
+            }
+            | Statement::Pack {
+                file,
+                file_place,
+                ..
+            } => {
                 if reads_file(&s.statements, file) {
-                    return Err(ScriptFault::At { place: *file_place, kind: ScriptKind::Clash });
+                    return Err(ScriptFault::At {
+                        place: *file_place,
+                        kind: ScriptKind::Clash,
+                    });
                 }
             }
             Statement::Read { .. } | Statement::Let { .. } | Statement::Print { .. } => {}

@@ -15,24 +15,72 @@ pub enum Span {
 /// An expression. Each place is that of the operator's sign, the function's word, the name, or `[`.
 #[derive(Drop)]
 pub enum Expr<N> {
-    Number { value: N },
-    Named { place: Place, name: Name },
-    Neg { place: Place, a: Box<Expr<N>> },
-    Square { place: Place, a: Box<Expr<N>> },
-    Binary { place: Place, op: BinOp, a: Box<Expr<N>>, b: Box<Expr<N>> },
-    Call { place: Place, call: Call, a: Box<Expr<N>> },
-    Bind { place: Place, bind: Bind, a: Box<Expr<N>>, b: Box<Expr<N>> },
-    Slice { place: Place, a: Box<Expr<N>>, rows: Span, cols: Span },
+    Number {
+        value: N,
+    },
+    Named {
+        place: Place,
+        name: Name,
+    },
+    Neg {
+        place: Place,
+        a: Box<Expr<N>>,
+    },
+    Square {
+        place: Place,
+        a: Box<Expr<N>>,
+    },
+    Binary {
+        place: Place,
+        op: BinOp,
+        a: Box<Expr<N>>,
+        b: Box<Expr<N>>,
+    },
+    Call {
+        place: Place,
+        call: Call,
+        a: Box<Expr<N>>,
+    },
+    Bind {
+        place: Place,
+        bind: Bind,
+        a: Box<Expr<N>>,
+        b: Box<Expr<N>>,
+    },
+    Slice {
+        place: Place,
+        a: Box<Expr<N>>,
+        rows: Span,
+        cols: Span,
+    },
 }
 
 /// A statement. `place` is that of the word `write` or `pack`, `file_place` that of the file's name.
 #[derive(Drop)]
 pub enum Statement<N> {
-    Read { name: Name, file: Name },
-    Let { name: Name, value: Expr<N> },
-    Print { value: Expr<N> },
-    Write { value: Expr<N>, place: Place, file: Name, file_place: Place },
-    Pack { value: Expr<N>, place: Place, file: Name, file_place: Place },
+    Read {
+        name: Name,
+        file: Name,
+    },
+    Let {
+        name: Name,
+        value: Expr<N>,
+    },
+    Print {
+        value: Expr<N>,
+    },
+    Write {
+        value: Expr<N>,
+        place: Place,
+        file: Name,
+        file_place: Place,
+    },
+    Pack {
+        value: Expr<N>,
+        place: Place,
+        file: Name,
+        file_place: Place,
+    },
 }
 
 /// A script: its statements in order.

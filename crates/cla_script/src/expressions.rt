@@ -26,40 +26,48 @@ fn constant<N: Number>(digits: &[u8]) -> Option<N>
     ensures { MatchOption result (2 ^ N.BITS ≤ value digits.now)
         (λ n. (N.value n ≡ pos (value digits.now)) × (value digits.now < 2 ^ N.BITS)) }
 {
-    let Some(size) = digits_value(digits) else { return None };
+    let Some(size) = digits_value(digits) else {
+        return None
+    };
     N::of(size as i64)
 }
 
 /// After the first token of an operand.
-pub fn want<N: Number + Drop>(alloc: Global, mut frames: Vec<Frame<N>>, token: Token) -> Result<Builder<N>, Refusal>
+pub fn want<N: Number + Drop>(
+    alloc: Global,
+    mut frames: Vec<Frame<N>>,
+    token: Token,
+) -> Result<Builder<N>, Refusal>
     requires { IsSupported N.BITS }
     ensures { Tells N.value result (test N.BITS (machine.Want (stack_of N.value frames.items)) (token_of token.entry)) }
 {
     let place = token.place;
     match token.kind {
         TokenKind::Number(digits) => {
-            let Some(value) = constant(digits) else { return Err(Refusal::Kind(ScriptKind::Literal)) };
-            Ok(Builder { frames, phase: Phase::Have(true, Expr::Number { value }) })
+            let Some(value) = constant(digits) else {
+                return Err(Refusal::Kind(ScriptKind::Literal))
+            };
+            Ok(Builder::from_parts(frames, Phase::Have(true, Expr::Number { value })))
         }
         TokenKind::Name(name) => {
             let name = Name::of(alloc, name)?;
-            Ok(Builder { frames, phase: Phase::Have(true, Expr::Named { place, name }) })
+            Ok(Builder::from_parts(frames, Phase::Have(true, Expr::Named { place, name })))
         }
         TokenKind::Sign(BinOp::Cell(CellOp::Sub)) => {
             frames.push(Frame::Minus { place })?;
-            Ok(Builder { frames, phase: Phase::Want })
+            Ok(Builder::from_parts(frames, Phase::Want))
         }
         TokenKind::Open => {
             frames.push(Frame::Paren)?;
-            Ok(Builder { frames, phase: Phase::Want })
+            Ok(Builder::from_parts(frames, Phase::Want))
         }
         TokenKind::Function(call) => {
             frames.push(Frame::Argument { place, call })?;
-            Ok(Builder { frames, phase: Phase::WantOpen })
+            Ok(Builder::from_parts(frames, Phase::WantOpen))
         }
         TokenKind::Binder(bind) => {
             frames.push(Frame::First { place, bind })?;
-            Ok(Builder { frames, phase: Phase::WantOpen })
+            Ok(Builder::from_parts(frames, Phase::WantOpen))
         }
         TokenKind::Read => read(frames),
         _ => Err(Refusal::Kind(ScriptKind::Syntax)),
@@ -67,31 +75,41 @@ pub fn want<N: Number + Drop>(alloc: Global, mut frames: Vec<Frame<N>>, token: T
 }
 
 /// After a function's word, or that of a statement, and the next token.
-pub fn want_open<N: Number + Drop>(frames: Vec<Frame<N>>, token: Token) -> Result<Builder<N>, Refusal>
-    ensures { Tells N.value result (test N.BITS (machine.WantOpen (stack_of N.value frames.items)) (token_of token.entry)) }
+pub fn want_open<N: Number + Drop>(
+    frames: Vec<Frame<N>>,
+    token: Token,
+) -> Result<Builder<N>, Refusal>
+    ensures { Tells N.value result
+        (test N.BITS (machine.WantOpen (stack_of N.value frames.items)) (token_of token.entry)) }
 {
     match token.kind {
-        TokenKind::Open => Ok(Builder { frames, phase: Phase::Want }),
+        TokenKind::Open => Ok(Builder::from_parts(frames, Phase::Want)),
         _ => Err(Refusal::Kind(ScriptKind::Syntax)),
     }
 }
 
 // After `)`, where all operators before it are done.
-fn close<N: Number + Drop>(alloc: Global, mut frames: Vec<Frame<N>>, tree: Expr<N>) -> Result<Builder<N>, Refusal>
+fn close<N: Number + Drop>(
+    alloc: Global,
+    mut frames: Vec<Frame<N>>,
+    tree: Expr<N>,
+) -> Result<Builder<N>, Refusal>
     ensures { Tells N.value result (settled (close (stack_of N.value frames.items) (tree_of N.value tree))) }
 {
-    let Some(frame) = frames.pop() else { return Err(Refusal::Kind(ScriptKind::Syntax)) };
+    let Some(frame) = frames.pop() else {
+        return Err(Refusal::Kind(ScriptKind::Syntax))
+    };
     match frame {
-        Frame::Paren => Ok(Builder { frames, phase: Phase::Have(true, tree) }),
+        Frame::Paren => Ok(Builder::from_parts(frames, Phase::Have(true, tree))),
         Frame::Argument { place, call } => {
             let a = Box::new(alloc, tree)?;
-            Ok(Builder { frames, phase: Phase::Have(true, Expr::Call { place, call, a }) })
+            Ok(Builder::from_parts(frames, Phase::Have(true, Expr::Call { place, call, a })))
         }
         Frame::Second { place, bind, a } => {
             let (a, b) = (Box::new(alloc, a)?, Box::new(alloc, tree)?);
-            Ok(Builder { frames, phase: Phase::Have(true, Expr::Bind { place, bind, a, b }) })
+            Ok(Builder::from_parts(frames, Phase::Have(true, Expr::Bind { place, bind, a, b })))
         }
-        Frame::Printing => Ok(Builder { frames, phase: Phase::Whole(Statement::Print { value: tree }) }),
+        Frame::Printing => Ok(Builder::from_parts(frames, Phase::Whole(Statement::Print { value: tree }))),
         Frame::Left { .. }
         | Frame::Minus { .. }
         | Frame::First { .. }
@@ -101,16 +119,25 @@ fn close<N: Number + Drop>(alloc: Global, mut frames: Vec<Frame<N>>, tree: Expr<
 }
 
 // After a comma, where all operators before it are done.
-fn next_argument<N: Number + Drop>(mut frames: Vec<Frame<N>>, tree: Expr<N>) -> Result<Builder<N>, Refusal>
+fn next_argument<N: Number + Drop>(
+    mut frames: Vec<Frame<N>>,
+    tree: Expr<N>,
+) -> Result<Builder<N>, Refusal>
     ensures { Tells N.value result (settled (next_argument (stack_of N.value frames.items) (tree_of N.value tree))) }
 {
-    let Some(frame) = frames.pop() else { return Err(Refusal::Kind(ScriptKind::Syntax)) };
+    let Some(frame) = frames.pop() else {
+        return Err(Refusal::Kind(ScriptKind::Syntax))
+    };
     match frame {
         Frame::First { place, bind } => {
-            frames.push(Frame::Second { place, bind, a: tree })?;
-            Ok(Builder { frames, phase: Phase::Want })
+            frames.push(Frame::Second {
+                place,
+                bind,
+                a: tree,
+            })?;
+            Ok(Builder::from_parts(frames, Phase::Want))
         }
-        Frame::Saving { word, place } => Ok(Builder { frames, phase: Phase::FileText(word, place, tree) }),
+        Frame::Saving { word, place } => Ok(Builder::from_parts(frames, Phase::FileText(word, place, tree))),
         Frame::Left { .. }
         | Frame::Minus { .. }
         | Frame::Paren
@@ -130,16 +157,17 @@ pub fn have<N: Number + Drop>(
     token: Token,
 ) -> Result<Builder<N>, Refusal>
     ensures { Tells N.value result
-        (test N.BITS (machine.Have sliceable (stack_of N.value frames.items) (tree_of N.value tree)) (token_of token.entry)) }
+        (test N.BITS (machine.Have sliceable (stack_of N.value frames.items) (tree_of N.value tree))
+            (token_of token.entry)) }
 {
     let place = token.place;
     match token.kind {
         TokenKind::Sign(op) => {
             let a = reduce(alloc, &mut frames, tree, level(op))?;
             frames.push(Frame::Left { place, op, a })?;
-            Ok(Builder { frames, phase: Phase::Want })
+            Ok(Builder::from_parts(frames, Phase::Want))
         }
-        TokenKind::Power => Ok(Builder { frames, phase: Phase::WantTwo(place, tree) }),
+        TokenKind::Power => Ok(Builder::from_parts(frames, Phase::WantTwo(place, tree))),
         TokenKind::Close => {
             let tree = reduce(alloc, &mut frames, tree, 1)?;
             close(alloc, frames, tree)
@@ -150,7 +178,7 @@ pub fn have<N: Number + Drop>(
         }
         TokenKind::OpenSquare => {
             if sliceable {
-                Ok(Builder { frames, phase: Phase::InSpan(place, tree, Part::Rows, Seen::Nothing) })
+                Ok(Builder::from_parts(frames, Phase::InSpan(place, tree, Part::Rows, Seen::Nothing)))
             } else {
                 Err(Refusal::Kind(ScriptKind::Syntax))
             }
@@ -168,13 +196,14 @@ pub fn two<N: Number + Drop>(
     token: Token,
 ) -> Result<Builder<N>, Refusal>
     ensures { Tells N.value result
-        (test N.BITS (machine.WantTwo at (stack_of N.value frames.items) (tree_of N.value tree)) (token_of token.entry)) }
+        (test N.BITS (machine.WantTwo at (stack_of N.value frames.items) (tree_of N.value tree))
+            (token_of token.entry)) }
 {
     match token.kind {
         TokenKind::Number(digits) => {
             if digits_value(digits) == Some(2) {
                 let a = Box::new(alloc, tree)?;
-                Ok(Builder { frames, phase: Phase::Have(false, Expr::Square { place: at, a }) })
+                Ok(Builder::from_parts(frames, Phase::Have(false, Expr::Square { place: at, a })))
             } else {
                 Err(Refusal::Kind(ScriptKind::Exponent))
             }

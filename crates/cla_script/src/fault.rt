@@ -13,6 +13,18 @@ pub enum ScriptFault {
     Memory,
 }
 
+impl ScriptFault {
+    ghost use Rattle.std.specs.Prelude.{◌≡◌};
+    ghost use Rattle.cla_script.specs.declared.fault.ScriptFault.TheVariants as fault;
+
+    /// A fault of this kind.
+    pub(crate) fn at(place: Place, kind: ScriptKind) -> ScriptFault
+        ensures { result ≡ fault.At place kind }
+    {
+        ScriptFault::At { place, kind }
+    }
+}
+
 impl From<AllocError> for ScriptFault {
     ghost use Rattle.std.specs.Prelude.{◌≡◌};
     ghost use Rattle.cla_script.specs.declared.fault.ScriptFault.TheVariants as fault;

@@ -22,9 +22,11 @@ use std::alloc::Global;
 pub fn read<N: Number + Drop>(mut frames: Vec<Frame<N>>) -> Result<Builder<N>, Refusal>
     ensures { Tells N.value result (settled (read (stack_of N.value frames.items))) }
 {
-    let Some(frame) = frames.pop() else { return Err(Refusal::Kind(ScriptKind::Syntax)) };
+    let Some(frame) = frames.pop() else {
+        return Err(Refusal::Kind(ScriptKind::Syntax))
+    };
     match frame {
-        Frame::Letting { name } => Ok(Builder { frames, phase: Phase::ReadOpen(name) }),
+        Frame::Letting { name } => Ok(Builder::from_parts(frames, Phase::ReadOpen(name))),
         Frame::Left { .. }
         | Frame::Minus { .. }
         | Frame::Paren
@@ -37,11 +39,15 @@ pub fn read<N: Number + Drop>(mut frames: Vec<Frame<N>>) -> Result<Builder<N>, R
 }
 
 /// After `read` and the next token.
-pub fn read_open<N: Number + Drop>(frames: Vec<Frame<N>>, name: Name, token: Token) -> Result<Builder<N>, Refusal>
+pub fn read_open<N: Number + Drop>(
+    frames: Vec<Frame<N>>,
+    name: Name,
+    token: Token,
+) -> Result<Builder<N>, Refusal>
     ensures { Tells N.value result (test N.BITS (machine.ReadOpen name) (token_of token.entry)) }
 {
     match token.kind {
-        TokenKind::Open => Ok(Builder { frames, phase: Phase::ReadText(name) }),
+        TokenKind::Open => Ok(Builder::from_parts(frames, Phase::ReadText(name))),
         _ => Err(Refusal::Kind(ScriptKind::Syntax)),
     }
 }
@@ -56,7 +62,7 @@ pub fn read_text<N: Number + Drop>(
     ensures { Tells N.value result (test N.BITS (machine.ReadText name) (token_of token.entry)) }
 {
     match token.kind {
-        TokenKind::Text(file) => Ok(Builder { frames, phase: Phase::ReadClose(name, Name::of(alloc, file)?) }),
+        TokenKind::Text(file) => Ok(Builder::from_parts(frames, Phase::ReadClose(name, Name::of(alloc, file)?))),
         _ => Err(Refusal::Kind(ScriptKind::Syntax)),
     }
 }
@@ -71,7 +77,7 @@ pub fn read_close<N: Number + Drop>(
     ensures { Tells N.value result (test N.BITS (machine.ReadClose name file) (token_of token.entry)) }
 {
     match token.kind {
-        TokenKind::Close => Ok(Builder { frames, phase: Phase::Whole(Statement::Read { name, file }) }),
+        TokenKind::Close => Ok(Builder::from_parts(frames, Phase::Whole(Statement::Read { name, file }))),
         _ => Err(Refusal::Kind(ScriptKind::Syntax)),
     }
 }
@@ -85,12 +91,13 @@ pub fn file_text<N: Number + Drop>(
     tree: Expr<N>,
     token: Token,
 ) -> Result<Builder<N>, Refusal>
-    ensures { Tells N.value result (test N.BITS (machine.FileText word place (tree_of N.value tree)) (token_of token.entry)) }
+    ensures { Tells N.value result
+        (test N.BITS (machine.FileText word place (tree_of N.value tree)) (token_of token.entry)) }
 {
     match token.kind {
         TokenKind::Text(file) => {
             let file = Name::of(alloc, file)?;
-            Ok(Builder { frames, phase: Phase::FileClose(word, place, tree, token.place, file) })
+            Ok(Builder::from_parts(frames, Phase::FileClose(word, place, tree, token.place, file)))
         }
         _ => Err(Refusal::Kind(ScriptKind::Syntax)),
     }
@@ -112,7 +119,7 @@ pub fn file_close<N: Number + Drop>(
     match token.kind {
         TokenKind::Close => {
             let statement = save_statement(word, place, tree, file_place, file);
-            Ok(Builder { frames, phase: Phase::Whole(statement) })
+            Ok(Builder::from_parts(frames, Phase::Whole(statement)))
         }
         _ => Err(Refusal::Kind(ScriptKind::Syntax)),
     }
@@ -128,7 +135,17 @@ fn save_statement<N: Number + Drop>(
     ensures { statement_of N.value result ≡ SaveOf word place (tree_of N.value value) file_place file }
 {
     match word {
-        SaveWord::Write => Statement::Write { value, place, file, file_place },
-        SaveWord::Pack => Statement::Pack { value, place, file, file_place },
+        SaveWord::Write => Statement::Write {
+            value,
+            place,
+            file,
+            file_place,
+        },
+        SaveWord::Pack => Statement::Pack {
+            value,
+            place,
+            file,
+            file_place,
+        },
     }
 }

@@ -14,15 +14,36 @@ use std::alloc::{AllocError, Global};
 /// statement itself, which stands at the bottom of the stack.
 #[derive(Drop)]
 pub enum Frame<N> {
-    Left { place: Place, op: BinOp, a: Expr<N> },
-    Minus { place: Place },
+    Left {
+        place: Place,
+        op: BinOp,
+        a: Expr<N>,
+    },
+    Minus {
+        place: Place,
+    },
     Paren,
-    Argument { place: Place, call: Call },
-    First { place: Place, bind: Bind },
-    Second { place: Place, bind: Bind, a: Expr<N> },
-    Letting { name: Name },
+    Argument {
+        place: Place,
+        call: Call,
+    },
+    First {
+        place: Place,
+        bind: Bind,
+    },
+    Second {
+        place: Place,
+        bind: Bind,
+        a: Expr<N>,
+    },
+    Letting {
+        name: Name,
+    },
     Printing,
-    Saving { word: SaveWord, place: Place },
+    Saving {
+        word: SaveWord,
+        place: Place,
+    },
 }
 
 fn cell_level(op: CellOp) -> u8
@@ -63,15 +84,28 @@ impl<N: Number + Drop> Frame<N> {
         ensures { IfOk result (λ e. tree_of N.value e ≡ closed (frame_of N.value self) (tree_of N.value b)) }
     {
         match self {
-            Frame::Left { place, op, a } => Ok(Expr::Binary { place, op, a: Box::new(alloc, a)?, b: Box::new(alloc, b)? }),
-            Frame::Minus { place } => Ok(Expr::Neg { place, a: Box::new(alloc, b)? }),
+            Frame::Left { place, op, a } => Ok(Expr::Binary {
+                place,
+                op,
+                a: Box::new(alloc, a)?,
+                b: Box::new(alloc, b)?,
+            }),
+            Frame::Minus { place } => Ok(Expr::Neg {
+                place,
+                a: Box::new(alloc, b)?,
+            }),
             _ => Ok(b),
         }
     }
 }
 
 /// The frames of this level and of higher ones take the tree. Its time grows with their number.
-pub fn reduce<N: Number + Drop>(alloc: Global, frames: &mut Vec<Frame<N>>, mut tree: Expr<N>, level: u8) -> Result<Expr<N>, AllocError>
+pub fn reduce<N: Number + Drop>(
+    alloc: Global,
+    frames: &mut Vec<Frame<N>>,
+    mut tree: Expr<N>,
+    level: u8,
+) -> Result<Expr<N>, AllocError>
     ensures { IfOk result (λ e. reduce level (stack_of N.value frames.old.items) (tree_of N.value tree)
         ≡ reduced (stack_of N.value frames.new.items) (tree_of N.value e)) }
 {

@@ -1,13 +1,14 @@
 //! The lines of a script, and their pieces.
 
-ghost use Rattle.std.specs.Prelude.{◌≡◌, ◌≤◌, ◌<◌, ◌+◌, ◌^◌, length, drop};
+ghost use Rattle.std.specs.Prelude.{◌≡◌, ◌≤◌, ◌<◌, ◌+◌, ◌^◌, length, drop, IfOk};
 ghost use Rattle.std.specs.List.{position_or_len};
 ghost use Rattle.cla_num.specs.Bits.{IsSupported};
 ghost use Rattle.cla_spec.specs.Lines.{is_lf, without_cr, first_line, after_line};
 ghost use Rattle.cla_grammar.specs.Reader.{take_items};
 ghost use Rattle.cla_tokens.specs.Items.{items_from, line_items};
-ghost use Rattle.cla_script.specs.Reads.{reading_of, Reads};
+ghost use Rattle.cla_script.specs.Reads.{reading_of, Reads, statements_of};
 ghost use Rattle.cla_script.specs.Parses.{Gives, Parses};
+ghost use Rattle.cla_tokens.specs.Formed.{AllFormed};
 ghost use Rattle.cla_tokens.specs.Scripts.{script_in};
 
 use crate::expr::Script;
@@ -32,7 +33,10 @@ fn read_pieces<N: Number + Drop>(
     let mut reader = reader;
     let mut at = 0;
     'pieces: while at < line.len() {
-        let place = Place { line: number, col: at as u32 + 1 };
+        let place = Place {
+            line: number,
+            col: at as u32 + 1,
+        };
         match piece_of(&line[at..]) {
             Piece::LineEnd => return Ok(reader),
             Piece::Blank => at += 1,
@@ -50,8 +54,8 @@ fn read_pieces<N: Number + Drop>(
                 };
                 at += len;
             }
-            Piece::BadByte => return Err(ScriptFault::At { place, kind: ScriptKind::Char }),
-            Piece::BadText => return Err(ScriptFault::At { place, kind: ScriptKind::Text }),
+            Piece::BadByte => return Err(ScriptFault::at(place, ScriptKind::Char)),
+            Piece::BadText => return Err(ScriptFault::at(place, ScriptKind::Text)),
         }
     }
     Ok(reader)
@@ -72,7 +76,13 @@ fn read_line<N: Number + Drop>(
         Ok(reader) => reader,
         Err(fault) => return Err(fault),
     };
-    reader.take(alloc, Item::End(Place { line: number, col: line.len() as u32 + 1 }))
+    reader.take(
+        alloc,
+        Item::End(Place {
+            line: number,
+            col: line.len() as u32 + 1,
+        }),
+    )
 }
 
 // How many bytes stand before the first LF.
@@ -122,13 +132,16 @@ fn cut_line(text: &[u8]) -> (&[u8], &[u8])
 }
 
 /// The statements of a script, or the first token that is refused with its place and kind, which is
-/// never `Clash`. The text has at most 2^20 bytes. It goes over the text once, and the stack that it keeps is
+/// never `Clash`. The text has at most 2^20 bytes. The statements are formed: each is the tree of its
+/// canonical text, which has at most 256 tokens. It goes over the text once, and the stack that it keeps is
 /// of the open statement alone.
 pub fn parse<N: Number + Drop>(alloc: Global, text: &[u8]) -> Result<Script<N>, ScriptFault>
     requires supported { IsSupported N.BITS }
     requires short { length text.now ≤ 2 ^ 20 }
     ensures answer { Parses N.BITS N.value text.now result }
     ensures computed { Gives N.value result (script_in N.BITS text.now) }
+    ensures formed { IfOk result (λ s. AllFormed (statements_of N.value s.statements.items)) }
+    ensures few { IfOk result (λ s. length s.statements.items < 2 ^ 32) }
 {
     let mut reader = Reader::new(alloc);
     let mut rest = text;
@@ -142,5 +155,7 @@ pub fn parse<N: Number + Drop>(alloc: Global, text: &[u8]) -> Result<Script<N>, 
         rest = back;
         number += 1;
     }
-    Ok(Script { statements: reader.statements })
+    Ok(Script {
+        statements: reader.statements,
+    })
 }

@@ -32,7 +32,11 @@ impl<N: Number + Drop> Reader<N> {
     pub fn new(alloc: Global) -> Reader<N>
         ensures { reading_of N.value result ≡ fresh [] }
     {
-        Reader { count: 0, builder: Builder::new(alloc), statements: Vec::new(alloc) }
+        Reader {
+            count: 0,
+            builder: Builder::new(alloc),
+            statements: Vec::new(alloc),
+        }
     }
 
     fn token(self, alloc: Global, token: Token) -> Result<Reader<N>, ScriptFault>
@@ -41,31 +45,51 @@ impl<N: Number + Drop> Reader<N> {
     {
         let place = token.place;
         if MOST_TOKENS <= self.count {
-            return Err(ScriptFault::At { place, kind: ScriptKind::Long });
+            return Err(ScriptFault::at(place, ScriptKind::Long));
         }
-        let Reader { count, builder, statements } = self;
+        let Reader {
+            count,
+            builder,
+            statements,
+        } = self;
         match builder.take(alloc, token) {
-            Ok(builder) => Ok(Reader { count: count + 1, builder, statements }),
+            Ok(builder) => Ok(Reader {
+                count: count + 1,
+                builder,
+                statements,
+            }),
             Err(Refusal::Memory) => Err(ScriptFault::Memory),
             Err(Refusal::Kind(kind)) => Err(ScriptFault::At { place, kind }),
         }
     }
 
     fn end(self, alloc: Global, place: Place) -> Result<Reader<N>, ScriptFault>
-        ensures { Reads N.value result (take_end (reading_of N.value self) (place)) }
+        ensures { Reads N.value result (take_end (reading_of N.value self) place) }
     {
-        let Reader { count, builder, statements } = self;
+        let Reader {
+            count,
+            builder,
+            statements,
+        } = self;
         if count == 0 {
-            return Ok(Reader { count: 0, builder: Builder::new(alloc), statements });
+            return Ok(Reader {
+                count: 0,
+                builder: Builder::new(alloc),
+                statements,
+            });
         }
         if builder.waits() {
-            return Err(ScriptFault::At { place, kind: ScriptKind::Exponent });
+            return Err(ScriptFault::at(place, ScriptKind::Exponent));
         }
         match builder.finish(alloc) {
             Ok(statement) => {
                 let mut statements = statements;
                 statements.push(statement)?;
-                Ok(Reader { count: 0, builder: Builder::new(alloc), statements })
+                Ok(Reader {
+                    count: 0,
+                    builder: Builder::new(alloc),
+                    statements,
+                })
             }
             Err(Refusal::Memory) => Err(ScriptFault::Memory),
             Err(Refusal::Kind(kind)) => Err(ScriptFault::At { place, kind }),
@@ -80,8 +104,8 @@ impl<N: Number + Drop> Reader<N> {
         match item {
             Item::Token(token) => self.token(alloc, token),
             Item::End(place) => self.end(alloc, place),
-            Item::BadByte(place) => Err(ScriptFault::At { place, kind: ScriptKind::Char }),
-            Item::BadText(place) => Err(ScriptFault::At { place, kind: ScriptKind::Text }),
+            Item::BadByte(place) => Err(ScriptFault::at(place, ScriptKind::Char)),
+            Item::BadText(place) => Err(ScriptFault::at(place, ScriptKind::Text)),
         }
     }
 }

@@ -23,38 +23,50 @@ pub fn start<N: Number + Drop>(alloc: Global, token: Token) -> Result<Builder<N>
 {
     let mut frames = Vec::new(alloc);
     match token.kind {
-        TokenKind::Name(name) => Ok(Builder { frames, phase: Phase::After(Name::of(alloc, name)?) }),
+        TokenKind::Name(name) => Ok(Builder::from_parts(frames, Phase::After(Name::of(alloc, name)?))),
         TokenKind::Print => {
             frames.push(Frame::Printing)?;
-            Ok(Builder { frames, phase: Phase::WantOpen })
+            Ok(Builder::from_parts(frames, Phase::WantOpen))
         }
         TokenKind::Save(word) => {
-            frames.push(Frame::Saving { word, place: token.place })?;
-            Ok(Builder { frames, phase: Phase::WantOpen })
+            frames.push(Frame::Saving {
+                word,
+                place: token.place,
+            })?;
+            Ok(Builder::from_parts(frames, Phase::WantOpen))
         }
         _ => Err(Refusal::Kind(ScriptKind::Syntax)),
     }
 }
 
 /// After a name and the next token.
-pub fn assign<N: Number + Drop>(alloc: Global, name: Name, token: Token) -> Result<Builder<N>, Refusal>
+pub fn assign<N: Number + Drop>(
+    alloc: Global,
+    name: Name,
+    token: Token,
+) -> Result<Builder<N>, Refusal>
     ensures { Tells N.value result (test N.BITS (machine.After name) (token_of token.entry)) }
 {
     let mut frames = Vec::new(alloc);
     match token.kind {
         TokenKind::Assign => {
             frames.push(Frame::Letting { name })?;
-            Ok(Builder { frames, phase: Phase::Want })
+            Ok(Builder::from_parts(frames, Phase::Want))
         }
         _ => Err(Refusal::Kind(ScriptKind::Syntax)),
     }
 }
 
 /// The assignment, where all of its expression was read.
-pub fn let_end<N: Number + Drop>(mut frames: Vec<Frame<N>>, value: Expr<N>) -> Result<Statement<N>, Refusal>
+pub fn let_end<N: Number + Drop>(
+    mut frames: Vec<Frame<N>>,
+    value: Expr<N>,
+) -> Result<Statement<N>, Refusal>
     ensures { Joins N.value result (let_end (stack_of N.value frames.items) (tree_of N.value value)) }
 {
-    let Some(frame) = frames.pop() else { return Err(Refusal::Kind(ScriptKind::Syntax)) };
+    let Some(frame) = frames.pop() else {
+        return Err(Refusal::Kind(ScriptKind::Syntax))
+    };
     match frame {
         Frame::Letting { name } => Ok(Statement::Let { name, value }),
         Frame::Left { .. }

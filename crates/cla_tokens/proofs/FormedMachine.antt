@@ -1,19 +1,18 @@
 -- What is read from formed tokens is formed.
-use Rattle.std.proofs.Common.{pos, ◌≡◌, ◌≢◌, ℕ, suc, ◌+◌, ◌<◌, ◌≤◌, ◌^◌, List, [], ◌∷◌, ◌++◌, length, refl, sym, ap, inl, inr, ◌∙◌, arith}
-use Rattle.std.proofs.Common.{Bool, true, false, Option, Some, None, Result, Ok, Err, length-append, subst}
+use Rattle.std.proofs.Common.{◌≡◌, ◌≢◌, ℕ, ◌+◌, ◌<◌, ◌≤◌, ◌^◌, List, [], ◌∷◌, ◌++◌, length, refl, sym, ap, inl, inr, ◌∙◌, arith}
+use Rattle.std.proofs.Common.{Bool, true, false, Option, Some, None, Result, Ok, Err, length-append}
 use Rattle.std.specs.Prelude.{nat_le, nat_lt, ◌==◌, ◌&&◌, not}
 use Rattle.std.proofs.lemmas.Bool.{cases_Bool}
 use Rattle.std.proofs.lemmas.Bool.Decides.{nat_tests}
 use Rattle.cla_grammar.specs.declared.place.Place.{Place}
 use Rattle.cla_num.specs.declared.cell_op.CellOp.TheVariants.{Sub, Neg}
 use Rattle.cla_grammar.specs.declared.words.BinOp.{BinOp}
-use Rattle.cla_grammar.specs.declared.words.BinOp.TheVariants.{Cell, Product}
-use Rattle.cla_grammar.specs.declared.words.ScriptKind.{ScriptKind}
+use Rattle.cla_grammar.specs.declared.words.BinOp.TheVariants.{Cell}
 use Rattle.cla_grammar.specs.declared.words.SaveWord.{SaveWord}
 use Rattle.cla_grammar.specs.Tokens.{Token, Placed, Number, Name, Text, Sign, Assign, Power, Open, Close, Comma, OpenSquare, CloseSquare}
 use Rattle.cla_grammar.specs.Tokens.{Colon, Function, Binder, Read, Print, Save, level}
-use Rattle.cla_grammar.specs.Tree.{Tree, Span, Every, One, Pair, Constant, Named, Square, Apply, Join, Slice, Statement, ReadOf, LetOf}
-use Rattle.cla_grammar.specs.Tree.{PrintOf, SaveOf}
+use Rattle.cla_grammar.specs.Tree.{Tree, Span, Every, One, Pair, Statement, ReadOf}
+use Rattle.cla_grammar.specs.Tree.{SaveOf}
 use Rattle.cla_grammar.specs.Machine.{Frame, Left, Minus, Paren, Argument, First, Second, Letting, Printing, Saving, level_of, closed}
 use Rattle.cla_grammar.specs.Machine.{reduce}
 use Rattle.cla_grammar.specs.Machine.{State, Start, After, Want, WantOpen, Have, InSpan, WantTwo, ReadOpen, ReadText, ReadClose, FileText}
@@ -21,9 +20,8 @@ use Rattle.cla_grammar.specs.Machine.{FileClose, Whole, Dead, Part, Rows, Cols, 
 use Rattle.cla_grammar.specs.Machine.{next_argument, begin, read, want, have, open_only, if_two, two_only, ended, span_step, read_text}
 use Rattle.cla_grammar.specs.Machine.{file_text, close_only, step, run, let_end, finish}
 use Rattle.cla_grammar.specs.Faults.{Item, Tok, BadByte, BadText, End, Fault}
-use Rattle.cla_grammar.specs.Reader.{Reading, fresh, waits, is_dead, is_two, is_large, test, tested, take_token, joined, take_end}
-use Rattle.cla_grammar.specs.Reader.{take_item, onward, take_items}
-use Rattle.cla_grammar.specs.Canonical.{statement_tokens}
+use Rattle.cla_grammar.specs.Reader.{Reading, fresh, waits, is_dead, is_two, is_large, take_token, joined, take_end}
+use Rattle.cla_grammar.specs.Reader.{onward, take_items}
 use Rattle.cla_grammar.proofs.MachineComplete.{run-append}
 use Rattle.cla_grammar.proofs.MachineSound.{derived}
 use Rattle.cla_grammar.proofs.CanonicalLength.{statement_len}
@@ -92,9 +90,9 @@ reduced_formed : (k : ℕ) (s : List Frame) (t : Tree) → IsFormedStack s → I
     × IsFormedTree (reduce k s t).tree
 reduced_formed k [] t s_formed h = (tt, h)
 reduced_formed k (f ∷ s) t s_formed h = elim (cases_Bool (nat_lt (level_of f) k)) [
-    inl stops ↦ rw stops (s_formed, h)
+  | inl stops ↦ rw stops (s_formed, h)
   | inr goes ↦ rw goes (reduced_formed k s (closed f t) s_formed.1 (closed_formed f t s_formed.0 h))
-  ]
+]
 
 start_formed : (p : Place) (k : Token) → IsFormedToken k → IsFormedState (start p k)
 start_formed p (Name n) h = h
@@ -163,12 +161,12 @@ open_formed _ u h = tt
 
 if_two_formed : (n : ℕ) (p : Place) (s : List Frame) (t : Tree) → IsFormedStack s × IsFormedTree t → IsFormedState (if_two n p s t)
 if_two_formed n p s t h = elim (cases_Bool (nat_lt n 2)) [
-    inl low ↦ rw low tt
+  | inl low ↦ rw low tt
   | inr some ↦ rw some (elim (cases_Bool (nat_lt 2 n)) [
-      inl high ↦ rw high tt
+    | inl high ↦ rw high tt
     | inr same ↦ rw same h
-    ])
-  ]
+  ])
+]
 
 two_formed : (k : Token) (p : Place) (s : List Frame) (t : Tree) → IsFormedStack s × IsFormedTree t → IsFormedState (two_only k p s t)
 two_formed (Number n) p s t h = if_two_formed n p s t h
@@ -266,28 +264,28 @@ next_formed_reading : (bits : ℕ) (r : Reading) (k : Placed) → IsFormedReadin
     → is_large bits r.state k.token ≡ false
     → IsFormedReading (record { count = r.count + 1; state = step r.state k; statements = r.statements })
 next_formed_reading bits r k h t short small = record {
-    done = h.done ++ k ∷ [];
-    state = ap (λ (u : State). step u k) h.state ∙ sym (run-append Start h.done (k ∷ []));
-    count = (let e : r.count + 1 ≡ length (h.done ++ k ∷ []) = omega (arith, h.count, length-append h.done (k ∷ [])) in e);
-    few = (let e : r.count + 1 ≤ 256 = grind (arith, nat_tests) in e);
-    formed = step_formed bits r.state k h.formed t small;
-    statements = h.statements
-  }
+  done = h.done ++ k ∷ [];
+  state = ap (λ (u : State). step u k) h.state ∙ sym (run-append Start h.done (k ∷ []));
+  count = (let e : r.count + 1 ≡ length (h.done ++ k ∷ []) = omega (arith, h.count, length-append h.done (k ∷ [])) in e);
+  few = (let e : r.count + 1 ≤ 256 = grind (arith, nat_tests) in e);
+  formed = step_formed bits r.state k h.formed t small;
+  statements = h.statements;
+}
 
 token_formed : (bits : ℕ) (r : Reading) (k : Placed) → IsFormedReading r → IsFormedToken k.token → AreFormedResults (take_token bits r k)
 token_formed bits r k h t = elim (cases_Bool (nat_le 256 r.count)) [
-    inl long ↦ rw long tt
+  | inl long ↦ rw long tt
   | inr short ↦ rw short (elim (cases_Bool (waits r.state && not (is_two k.token))) [
-      inl waiting ↦ rw waiting tt
+    | inl waiting ↦ rw waiting tt
     | inr ready ↦ rw ready (elim (cases_Bool (is_dead (step r.state k))) [
-        inl dead ↦ rw dead tt
+      | inl dead ↦ rw dead tt
       | inr alive ↦ rw alive (elim (cases_Bool (is_large bits r.state k.token)) [
-          inl large ↦ rw large tt
+        | inl large ↦ rw large tt
         | inr small ↦ rw small (next_formed_reading bits r k h t short small)
-        ])
       ])
     ])
-  ]
+  ])
+]
 
 joined_formed : (r : Reading) (p : Place) (found : Option Statement) → IsFormedReading r → finish r.state ≡ found → IsFormedEnd found
     → AreFormedResults (joined p r.statements found)
@@ -295,16 +293,16 @@ joined_formed r p None h e f = tt
 joined_formed r p (Some x) h e f =
     let read = statement_len (derived h.done x (ap finish (sym h.state) ∙ e)) in
     fresh_formed (r.statements ++ x ∷ [])
-        (formed_snoc r.statements x h.statements (record { parts = f; short = omega (arith, read, h.count, h.few) }))
+    (formed_snoc r.statements x h.statements (record { parts = f; short = omega (arith, read, h.count, h.few) }))
 
 end_formed : (r : Reading) (p : Place) → IsFormedReading r → AreFormedResults (take_end r p)
 end_formed r p h = elim (cases_Bool (r.count == 0)) [
-    inl empty ↦ rw empty (fresh_formed r.statements h.statements)
+  | inl empty ↦ rw empty (fresh_formed r.statements h.statements)
   | inr some ↦ rw some (elim (cases_Bool (waits r.state)) [
-      inl waiting ↦ rw waiting tt
+    | inl waiting ↦ rw waiting tt
     | inr ready ↦ rw ready (joined_formed r p (finish r.state) h refl (finish_formed r.state h.formed))
-    ])
-  ]
+  ])
+]
 
 abbrev pub AreFormedItems : List Item → Type 0
 AreFormedItems [] = Unit {0}

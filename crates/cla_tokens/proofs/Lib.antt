@@ -3,3 +3,5 @@ pub mod DigitValues
 pub mod FirstBytes
 pub mod WordTable
 pub mod FormedMachine
+pub mod FormedTexts
+pub mod StatementCount

@@ -5,3 +5,4 @@ pub mod View
 pub mod Items
 pub mod Scripts
 pub mod Formed
+pub mod Laws

@@ -2,11 +2,13 @@
 //! place. The signs and the reserved words stand in one table each.
 #![tactic(auto)]
 
+mod laws;
 mod number;
 mod pieces;
 mod token;
 mod words;
 
+pub use laws::scripts_are_formed;
 pub use number::digits_value;
 pub use pieces::{Piece, piece_of};
 pub use token::{Item, Token, TokenKind};

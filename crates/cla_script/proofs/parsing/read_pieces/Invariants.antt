@@ -8,7 +8,7 @@ abbrev pub invariant-pieces : goal.invariant-pieces
 invariant-pieces g l =
     (l.at ≤ length l.line)
     × (take_items g.N.Number.BITS (reading_of g.N.Number.value l.fn.reader) (items_from l.number 0 1 l.line) ≡ take_items g.N.Number.BITS
-        (reading_of g.N.Number.value l.reader) (items_from l.number 0 (l.at + 1) (drop l.at l.line)))
+    (reading_of g.N.Number.value l.reader) (items_from l.number 0 (l.at + 1) (drop l.at l.line)))
 
 abbrev pub decreases-pieces : goal.decreases-pieces
 decreases-pieces g l = length l.line - l.at
