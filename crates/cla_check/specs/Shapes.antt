@@ -91,7 +91,8 @@ bind_shape p f x y = do
   b ← matrix_of p y
   bound_shape p f a b
 
--- how many of so many rows or columns a span keeps; none where its first is 0 or above its last, or its last above their number
+-- how many of so many rows or columns a span keeps; none where its first is 0 or above its last, or its last is
+-- above their number
 abbrev pub span_size : Span → ℕ → Option ℕ
 span_size Every size = Some size
 span_size (One n) size = if nat_le 1 n && nat_le n size then Some 1 else None

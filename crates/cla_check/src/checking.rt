@@ -1,6 +1,6 @@
 //! The check of a script's shapes.
 
-ghost use Rattle.std.specs.Prelude.{◌≡◌, ◌<◌, ◌^◌, All, length, vec_len};
+ghost use Rattle.std.specs.Prelude.{◌≡◌, ◌<◌, ◌^◌, All, length};
 ghost use Rattle.cla_script.specs.Reads.{statements_of};
 ghost use Rattle.cla_tokens.specs.Formed.{AllFormed};
 ghost use Rattle.cla_check.specs.Checks.{Checks};
@@ -23,7 +23,7 @@ pub fn check<N: Number + Drop>(
     s: Script<N>,
     inputs: &[Shape],
 ) -> Result<Checked<N>, ShapeFault>
-    requires few { vec_len s.statements < 2 ^ 32 }
+    requires few { length s.statements.items < 2 ^ 32 }
     requires formed { AllFormed (statements_of N.value s.statements.items) }
     requires one_each { length inputs.now ≡ reads_in (statements_of N.value s.statements.items) }
     requires in_limits { All IsInLimits inputs.now }

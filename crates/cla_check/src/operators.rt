@@ -1,7 +1,8 @@
 //! The shape of an operator's result.
 
 ghost use Rattle.std.specs.Prelude.{◌≡◌, ◌≤◌};
-ghost use Rattle.cla_check.specs.Shapes.{call_shape, cell_shape, matrix_of, bind_shape, product_shape, sized, slice_shape, span_size};
+ghost use Rattle.cla_check.specs.Shapes.{bind_shape, call_shape, cell_shape, matrix_of, product_shape};
+ghost use Rattle.cla_check.specs.Shapes.{sized, slice_shape, span_size};
 ghost use Rattle.cla_script.specs.View.{span_of};
 
 use crate::fault::{Fault, ShapeKind};

@@ -1,23 +1,20 @@
 -- The reader goes on from a place of a line, and from a line of a text.
 use Rattle.std.proofs.Common.{◌≡◌, ℕ, ℤ, zero, suc, ◌+◌, ◌-◌, ◌<◌, ◌≤◌, List, [], ◌∷◌, ◌++◌, length, drop, take, refl, sym, ap, subst}
-use Rattle.std.proofs.Common.{◌∙◌, arith, length-drop, append_assoc, append-nil, Result, Ok, Err}
+use Rattle.std.proofs.Common.{◌∙◌, arith, length-drop, Result, Ok, Err}
 use Rattle.std.proofs.Math.Seq.{take-length}
 use Rattle.std.proofs.lemmas.List.{drop-drop}
-use Rattle.cla_grammar.specs.declared.place.Place.{Place}
-use Rattle.cla_grammar.specs.Faults as faults
-use Rattle.cla_grammar.specs.Faults.{Item, Fault, IsScript, IsFirstRefused}
+use Rattle.cla_grammar.specs.Faults.{Item, Fault, IsScript}
 use Rattle.cla_grammar.specs.Reader.{Reading, take_item, take_items, onward, read_script}
 use Rattle.cla_grammar.proofs.FirstRefused.{script_read}
 use Rattle.cla_grammar.specs.Laws.{Answers}
-use Rattle.cla_tokens.specs.Pieces.{Piece, LineEnd, Blank, Semicolon, Found, BadByte, BadText, piece_at}
+use Rattle.cla_tokens.specs.Pieces.{Piece, piece_at}
 use Rattle.cla_tokens.specs.Items.{items_from, items_of, after_first, place_at, line_items, items_of_lines, items_of_text}
 use Rattle.cla_spec.specs.Lines.{is_lf, lines_of, first_line, after_line}
 use Rattle.std.specs.List.{position_or_len}
 use Rattle.cla_script.specs.Parses.{Parses, Gives}
 use Rattle.cla_tokens.specs.Scripts.{script_in, statements_read}
-use Rattle.cla_spec.proofs.LineLemmas.{lines_of-cons, lines_of-nil}
+use Rattle.cla_spec.proofs.LineLemmas.{lines_of-cons}
 use Rattle.cla_script.specs.Reads.{Reads}
-use Rattle.cla_script.specs.declared.reader.Reader.{Reader}
 use Rattle.cla_script.specs.declared.fault.ScriptFault.{ScriptFault}
 use Rattle.cla_script.specs.declared.fault.ScriptFault.TheVariants.{At, Memory}
 

@@ -1,5 +1,5 @@
 -- What the catch-all arms of the builder do.
-use Rattle.std.proofs.Common.{◌≡◌, ◌≢◌, ℕ, ℤ, ◌≤◌, ◌^◌, List, refl, Result, arith, sym, ap, subst, ◌∙◌}
+use Rattle.std.proofs.Common.{◌≡◌, ℕ, ℤ, List, refl, Result, sym, ap, subst, ◌∙◌}
 use Rattle.cla_grammar.specs.declared.place.Place.{Place}
 use Rattle.cla_grammar.specs.Tree.{Tree, Every}
 use Rattle.cla_grammar.specs.Tree as tree

@@ -1,5 +1,5 @@
 -- What the reader of items gives.
-use Rattle.std.specs.Prelude.{◌≡◌, ℕ, ℤ, List, map, Result, Ok, Err}
+use Rattle.std.specs.Prelude.{◌≡◌, ℤ, List, map, Result, Ok, Err}
 use Rattle.cla_grammar.specs.Reader.{Reading}
 use Rattle.cla_grammar.specs.Tree as tree
 use Rattle.cla_grammar.specs.Faults as faults

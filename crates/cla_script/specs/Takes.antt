@@ -1,5 +1,5 @@
 -- What the steps of the reader give.
-use Rattle.std.specs.Prelude.{◌≡◌, ℕ, ℤ, List, [], map, Result, Ok, Err, Option, Some, None, if◌then◌else◌}
+use Rattle.std.specs.Prelude.{◌≡◌, ℤ, List, Result, Ok, Err, Option, Some, None, if◌then◌else◌}
 use Rattle.cla_grammar.specs.Machine as machine
 use Rattle.cla_grammar.specs.Machine.{State}
 use Rattle.cla_grammar.specs.Reader.{is_dead}
@@ -7,7 +7,6 @@ use Rattle.cla_grammar.specs.Tree as tree
 use Rattle.cla_grammar.specs.declared.words.ScriptKind.{ScriptKind}
 use Rattle.cla_grammar.specs.declared.words.ScriptKind.TheVariants as kind
 use Rattle.cla_script.specs.View.{tree_of, stack_of, span_of, statement_of}
-use Rattle.cla_script.specs.declared.expr.Expr.{Expr}
 use Rattle.cla_script.specs.declared.expr.Statement.{Statement}
 use Rattle.cla_script.specs.declared.frame.Frame.{Frame}
 use Rattle.cla_script.specs.declared.builder.Seen.{Seen}

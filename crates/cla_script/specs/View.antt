@@ -1,5 +1,5 @@
 -- What is said of expressions, frames and tokens.
-use Rattle.std.specs.Prelude.{ℕ, ℤ, List, map, reverse}
+use Rattle.std.specs.Prelude.{ℤ, List, map, reverse}
 use Rattle.cla_grammar.specs.Tree as tree
 use Rattle.cla_grammar.specs.Tree.{Tree}
 use Rattle.cla_grammar.specs.Machine as machine

@@ -109,7 +109,10 @@ fn close<N: Number + Drop>(
             let (a, b) = (Box::new(alloc, a)?, Box::new(alloc, tree)?);
             Ok(Builder::from_parts(frames, Phase::Have(true, Expr::Bind { place, bind, a, b })))
         }
-        Frame::Printing => Ok(Builder::from_parts(frames, Phase::Whole(Statement::Print { value: tree }))),
+        Frame::Printing => Ok(Builder::from_parts(
+            frames,
+            Phase::Whole(Statement::Print { value: tree }),
+        )),
         Frame::Left { .. }
         | Frame::Minus { .. }
         | Frame::First { .. }
@@ -137,7 +140,10 @@ fn next_argument<N: Number + Drop>(
             })?;
             Ok(Builder::from_parts(frames, Phase::Want))
         }
-        Frame::Saving { word, place } => Ok(Builder::from_parts(frames, Phase::FileText(word, place, tree))),
+        Frame::Saving { word, place } => Ok(Builder::from_parts(
+            frames,
+            Phase::FileText(word, place, tree),
+        )),
         Frame::Left { .. }
         | Frame::Minus { .. }
         | Frame::Paren
@@ -158,7 +164,7 @@ pub fn have<N: Number + Drop>(
 ) -> Result<Builder<N>, Refusal>
     ensures { Tells N.value result
         (test N.BITS (machine.Have sliceable (stack_of N.value frames.items) (tree_of N.value tree))
-            (token_of token.entry)) }
+        (token_of token.entry)) }
 {
     let place = token.place;
     match token.kind {
@@ -178,7 +184,10 @@ pub fn have<N: Number + Drop>(
         }
         TokenKind::OpenSquare => {
             if sliceable {
-                Ok(Builder::from_parts(frames, Phase::InSpan(place, tree, Part::Rows, Seen::Nothing)))
+                Ok(Builder::from_parts(
+                    frames,
+                    Phase::InSpan(place, tree, Part::Rows, Seen::Nothing),
+                ))
             } else {
                 Err(Refusal::Kind(ScriptKind::Syntax))
             }
@@ -197,7 +206,7 @@ pub fn two<N: Number + Drop>(
 ) -> Result<Builder<N>, Refusal>
     ensures { Tells N.value result
         (test N.BITS (machine.WantTwo at (stack_of N.value frames.items) (tree_of N.value tree))
-            (token_of token.entry)) }
+        (token_of token.entry)) }
 {
     match token.kind {
         TokenKind::Number(digits) => {

@@ -62,7 +62,10 @@ pub fn read_text<N: Number + Drop>(
     ensures { Tells N.value result (test N.BITS (machine.ReadText name) (token_of token.entry)) }
 {
     match token.kind {
-        TokenKind::Text(file) => Ok(Builder::from_parts(frames, Phase::ReadClose(name, Name::of(alloc, file)?))),
+        TokenKind::Text(file) => Ok(Builder::from_parts(
+            frames,
+            Phase::ReadClose(name, Name::of(alloc, file)?),
+        )),
         _ => Err(Refusal::Kind(ScriptKind::Syntax)),
     }
 }
@@ -77,7 +80,10 @@ pub fn read_close<N: Number + Drop>(
     ensures { Tells N.value result (test N.BITS (machine.ReadClose name file) (token_of token.entry)) }
 {
     match token.kind {
-        TokenKind::Close => Ok(Builder::from_parts(frames, Phase::Whole(Statement::Read { name, file }))),
+        TokenKind::Close => Ok(Builder::from_parts(
+            frames,
+            Phase::Whole(Statement::Read { name, file }),
+        )),
         _ => Err(Refusal::Kind(ScriptKind::Syntax)),
     }
 }
@@ -97,7 +103,10 @@ pub fn file_text<N: Number + Drop>(
     match token.kind {
         TokenKind::Text(file) => {
             let file = Name::of(alloc, file)?;
-            Ok(Builder::from_parts(frames, Phase::FileClose(word, place, tree, token.place, file)))
+            Ok(Builder::from_parts(
+                frames,
+                Phase::FileClose(word, place, tree, token.place, file),
+            ))
         }
         _ => Err(Refusal::Kind(ScriptKind::Syntax)),
     }

@@ -43,15 +43,29 @@ fn ended<N: Number + Drop>(
 ) -> Result<Builder<N>, Refusal>
     ensures { Tells N.value result (settled
         (ended (kind_of token.entry.kind) at (stack_of N.value frames.items) (tree_of N.value tree)
-            (part_of part) (span_of span))) }
+        (part_of part) (span_of span))) }
 {
     match (token.kind, part) {
         (TokenKind::Comma, Part::Rows) => {
-            Ok(Builder::from_parts(frames, Phase::InSpan(at, tree, Part::Cols(span), Seen::Nothing)))
+            Ok(Builder::from_parts(
+                frames,
+                Phase::InSpan(at, tree, Part::Cols(span), Seen::Nothing),
+            ))
         }
         (TokenKind::CloseSquare, Part::Cols(rows)) => {
             let a = Box::new(alloc, tree)?;
-            Ok(Builder::from_parts(frames, Phase::Have(true, Expr::Slice { place: at, a, rows, cols: span })))
+            Ok(Builder::from_parts(
+                frames,
+                Phase::Have(
+                    true,
+                    Expr::Slice {
+                        place: at,
+                        a,
+                        rows,
+                        cols: span,
+                    },
+                ),
+            ))
         }
         _ => Err(Refusal::Kind(ScriptKind::Syntax)),
     }
@@ -69,24 +83,33 @@ pub fn in_span<N: Number + Drop>(
 ) -> Result<Builder<N>, Refusal>
     ensures { Tells N.value result
         (test N.BITS
-            (machine.InSpan at (stack_of N.value frames.items) (tree_of N.value tree) (part_of part) (seen_of seen))
-            (token_of token.entry)) }
+        (machine.InSpan at (stack_of N.value frames.items) (tree_of N.value tree) (part_of part) (seen_of seen))
+        (token_of token.entry)) }
 {
     match seen {
         Seen::Nothing => match token.kind {
             TokenKind::Number(digits) => match bound(digits) {
-                Some(n) => Ok(Builder::from_parts(frames, Phase::InSpan(at, tree, part, Seen::Once(n)))),
+                Some(n) => Ok(Builder::from_parts(
+                    frames,
+                    Phase::InSpan(at, tree, part, Seen::Once(n)),
+                )),
                 None => Err(Refusal::Kind(ScriptKind::Literal)),
             },
             _ => ended(alloc, frames, at, tree, part, Span::All, token),
         },
         Seen::Once(n) => match token.kind {
-            TokenKind::Colon => Ok(Builder::from_parts(frames, Phase::InSpan(at, tree, part, Seen::Parted(n)))),
+            TokenKind::Colon => Ok(Builder::from_parts(
+                frames,
+                Phase::InSpan(at, tree, part, Seen::Parted(n)),
+            )),
             _ => ended(alloc, frames, at, tree, part, Span::One { n }, token),
         },
         Seen::Parted(n) => match token.kind {
             TokenKind::Number(digits) => match bound(digits) {
-                Some(m) => Ok(Builder::from_parts(frames, Phase::InSpan(at, tree, part, Seen::Both(n, m)))),
+                Some(m) => Ok(Builder::from_parts(
+                    frames,
+                    Phase::InSpan(at, tree, part, Seen::Both(n, m)),
+                )),
                 None => Err(Refusal::Kind(ScriptKind::Literal)),
             },
             _ => Err(Refusal::Kind(ScriptKind::Syntax)),

@@ -23,7 +23,10 @@ pub fn start<N: Number + Drop>(alloc: Global, token: Token) -> Result<Builder<N>
 {
     let mut frames = Vec::new(alloc);
     match token.kind {
-        TokenKind::Name(name) => Ok(Builder::from_parts(frames, Phase::After(Name::of(alloc, name)?))),
+        TokenKind::Name(name) => Ok(Builder::from_parts(
+            frames,
+            Phase::After(Name::of(alloc, name)?),
+        )),
         TokenKind::Print => {
             frames.push(Frame::Printing)?;
             Ok(Builder::from_parts(frames, Phase::WantOpen))

@@ -1,6 +1,8 @@
-use Rattle.std.proofs.Common.{◌≡◌, ℕ, ◌+◌, ◌<◌, Ok, List, [], length, refl, sym, ap, ◌∙◌, arith, length-map}
+use Rattle.std.proofs.Common.{◌≡◌, ℕ, ◌+◌, ◌<◌, Ok, List, [], length, sym, ap, ◌∙◌, arith}
+use Rattle.std.proofs.lemmas.List.{length-map}
 use Rattle.std.proofs.lemmas.Bool.{eqb-true, eqb-false}
 use Rattle.std.proofs.lemmas.List.{nil_from_length}
+use Rattle.cla_script.specs.View.{statement_of}
 use Rattle.cla_grammar.specs.Faults.{Item}
 use Rattle.cla_grammar.specs.Reader.{take_items, read_script}
 use Rattle.cla_spec.specs.Lines.{lines_of}
@@ -66,9 +68,9 @@ returns g c =
     let xs = statements_of value c.lines.reader.statements.items in
     let taken = λ (ls : List (List ℕ)). take_items bits (reading_of value c.lines.reader) (items_of_lines c.lines.number ls) in
     let read : read_script bits (items_of_text text) ≡ Ok (reading_of value c.lines.reader) =
-      c.lines.invariant.1 ∙ (ap (λ (l : List ℕ). taken (lines_of l)) empty ∙ ap taken lines_of-nil) in
+    c.lines.invariant.1 ∙ (ap (λ (l : List ℕ). taken (lines_of l)) empty ∙ ap taken lines_of-nil) in
     let script : script_in bits text ≡ Ok xs = ap statements_read read in
-    let count : length xs ≡ length c.lines.reader.statements.items = length-map _ c.lines.reader.statements.items in
+    let count : length xs ≡ length c.lines.reader.statements.items = length-map c.lines.reader.statements.items (statement_of value) in
     record {
       answer = finished bits (items_of_text text) (reading_of value c.lines.reader) read;
       computed = script;

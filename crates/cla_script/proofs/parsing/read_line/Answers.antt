@@ -1,5 +1,5 @@
-use Rattle.std.proofs.Common.{◌≡◌, ℕ, ◌+◌, List, [], ◌∷◌, length, refl, sym, subst, Result}
-use Rattle.cla_grammar.specs.Faults.{Item, Fault, End}
+use Rattle.std.proofs.Common.{◌+◌, [], ◌∷◌, length, refl, sym, subst, Result}
+use Rattle.cla_grammar.specs.Faults.{Fault, End}
 use Rattle.cla_grammar.specs.Reader.{Reading, take_items}
 use Rattle.cla_tokens.specs.Items.{items_from, line_items, place_at}
 use Rattle.cla_script.specs.Reads.{reading_of, Reads}

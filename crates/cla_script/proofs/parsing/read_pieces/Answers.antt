@@ -1,7 +1,7 @@
-use Rattle.std.proofs.Common.{◌≡◌, ℕ, ◌+◌, ◌≤◌, ◌<◌, List, ap, sym, ◌∙◌, refl, arith, length, length-drop, drop}
+use Rattle.std.proofs.Common.{◌+◌, ◌≤◌, List, ap, ◌∙◌, refl, arith, length, length-drop, drop}
 use Rattle.cla_grammar.specs.Faults.{Item, Tok, End}
 use Rattle.cla_grammar.specs.Grammar.{at}
-use Rattle.cla_grammar.specs.Reader.{take_items, take_item}
+use Rattle.cla_grammar.specs.Reader.{take_items}
 use Rattle.cla_tokens.specs.Pieces.{LineEnd, Blank, Semicolon, Found, BadByte, BadText}
 use Rattle.cla_tokens.specs.Items.{items_from, place_at}
 use Rattle.cla_tokens.specs.View.{kind_of}
@@ -25,16 +25,18 @@ pieces-preserved-in-Blank g c = (
 )
 
 pub returns-in-BadByte : goal.returns-in-BadByte
-returns-in-BadByte g c = c.pieces.invariant.1
+returns-in-BadByte g c =
+    rw c.at.ensures (c.pieces.invariant.1
     ∙ ap (λ (l : List Item). take_items g.N.Number.BITS (reading_of g.N.Number.value c.pieces.reader) l)
     (cut BadByte c.args.number 1 c.pieces.at c.args.line.now _ (whole_rest c.args.line.now c.pieces.at) (omega arith) refl
-    (omega arith) c.in-BadByte.ensures.value)
+    (omega arith) c.in-BadByte.ensures.value))
 
 pub returns-in-BadText : goal.returns-in-BadText
-returns-in-BadText g c = c.pieces.invariant.1
+returns-in-BadText g c =
+    rw c.at-in-BadText.ensures (c.pieces.invariant.1
     ∙ ap (λ (l : List Item). take_items g.N.Number.BITS (reading_of g.N.Number.value c.pieces.reader) l)
     (cut BadText c.args.number 1 c.pieces.at c.args.line.now _ (whole_rest c.args.line.now c.pieces.at) (omega arith) refl
-    (omega arith) c.in-BadText.ensures.value)
+    (omega arith) c.in-BadText.ensures.value))
 
 pub pieces-preserved-in-Semicolon : goal.pieces-preserved-in-Semicolon
 pieces-preserved-in-Semicolon g c = (
