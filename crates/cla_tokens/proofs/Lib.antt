@@ -5,3 +5,4 @@ pub mod WordTable
 pub mod FormedMachine
 pub mod FormedTexts
 pub mod StatementCount
+pub mod LongestSign

@@ -8,7 +8,7 @@ mod pieces;
 mod token;
 mod words;
 
-pub use laws::scripts_are_formed;
+pub use laws::{longest_sign_is_taken, scripts_are_formed};
 pub use number::digits_value;
 pub use pieces::{Piece, piece_of};
 pub use token::{Item, Token, TokenKind};
