@@ -1,6 +1,6 @@
 //! A file that is read line by line.
 
-ghost use Rattle.std.specs.Prelude.{◌≡◌, ◌<◌, ◌≤◌, ◌^◌, [], false, length, IsSome, IfOk, OnOk};
+ghost use Rattle.std.specs.Prelude.{◌≡◌, ◌<◌, ◌≤◌, ◌^◌, [], false, length, IsSome, IsOk, IfOk, OnOk};
 ghost use Rattle.std.specs.Bool.{OnTrue};
 ghost use Rattle.cla_io.specs.State.{left};
 ghost use Rattle.cla_io.specs.Lines.{TakesLineWhereTold, CountsLine, TakesWholeWhereTold, CountsWhole, InCause, OnlyHolds, SameContent, IsAllRead, IsNotTooLong, ahead_of, line_number_of};
@@ -34,11 +34,13 @@ impl<F: Files, B: Drop> Drop for InputOver<'_, F, B> {
 
 impl<'a, F: Files> InputOver<'a, F, Taken> {
     /// The input of the file that is being read, from its first byte. At most `limit` bytes are
-    /// taken of it, from 8 to 2^32.
+    /// taken of it, from 8 to 2^32. It takes no memory yet, and so succeeds; a caller would know
+    /// nothing of its files after an error.
     pub fn new(alloc: Global, files: &'a mut F, limit: u64) -> Result<Input<'a, F>, Memory>
         requires start { IsAtStart (F.state files.old).reading }
         requires least { 8 ≤ limit }
         requires most { limit ≤ 2 ^ 32 }
+        ensures succeeds { IsOk result }
         ensures same_reference { IfOk result (λ input. input.files.ghost_name ≡ files.entry.ghost_name) }
         ensures same { IfOk result (λ input. input.files.now ≡ files.old) }
         ensures nothing_taken { IfOk result (λ input. input.taken ≡ record { held = []; at = 0; limit = limit; line = []; lines = 0; ended = false }) }
