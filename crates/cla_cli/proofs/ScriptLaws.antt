@@ -1,5 +1,5 @@
 -- What a script that is refused can't be.
-use Rattle.std.proofs.Common.{◌≡◌, ℕ, ◌+◌, ◌-◌, ◌<◌, List, [], ◌∷◌, ◌++◌, length, take, drop, true, ap, sym, ◌∙◌, arith, length-append}
+use Rattle.std.proofs.Common.{◌≡◌, ℕ, ◌+◌, ◌-◌, ◌<◌, ◌≤◌, List, [], ◌∷◌, ◌++◌, length, take, drop, Option, Some, None, true, refl, ap, sym, ◌∙◌, arith, length-append}
 use Rattle.std.specs.Prelude.{codes}
 use Rattle.std.specs.Str.{IsAscii}
 use Rattle.std.specs.List.{list_all}
@@ -8,12 +8,12 @@ use Rattle.std.proofs.lemmas.Bool.Decides.{nat_tests}
 use Rattle.std.proofs.lemmas.List.{take_at}
 use Rattle.std.proofs.Math.Seq.{drop-append_seam}
 use Rattle.std.proofs.lemmas.Str.Ascii.{IsAscii-nil, IsAscii-cons}
-use Rattle.cla_spec.specs.SumScript.{is_text, is_text_byte, read_line, print_line}
-use Rattle.cla_io.specs.Steps.{Lines}
-use Rattle.cla_io.proofs.StepLaws.{TellsOn}
-use Rattle.cla_cli.specs.declared.script.LineFault.{LineFault}
-use Rattle.cla_cli.specs.declared.script.LineFault.TheVariants.{Form, Read, Memory}
-use Rattle.cla_cli.specs.Script.{Refuses, NeverName, NeverFactor, NeverScript}
+use Rattle.cla_spec.specs.SumScript.{SumScript, is_text, is_text_byte, read_line, print_line, sum_script_in, is_factor}
+use Rattle.cla_spec.specs.Lines.{lines_of, first_line, after_line}
+use Rattle.cla_spec.proofs.LineLemmas.{lines_of-nil, lines_of-cons, lines_of-empty}
+use Rattle.cla_spec.proofs.SumScriptLaws.{sum_script_in-sound, sum_script_in-complete}
+use Rattle.cla_cli.specs.Outcome.{script_limit}
+use Rattle.cla_cli.specs.Script.{IsReadLine, IsNoReadLine, IsNoPrintLine}
 
 pub long_line : (line name : List ℕ) → line ≡ read_line name → length line ≡ length name + 12
 long_line line name e = ap (λ (l : List ℕ). length l) e ∙ omega (arith, length-append name (34 ∷ 41 ∷ []))
@@ -48,30 +48,70 @@ bytes_ascii (b ∷ bs) h =
 pub text_ascii : (name : List ℕ) → is_text name ≡ true → IsAscii name
 text_ascii name h = bytes_ascii name (and_parts _ _ h).1
 
--- no sum script has a first line that is refused
-pub no_name : (bits : ℕ) (before : Lines) → NeverName before → NeverScript bits before
-no_name bits before bad script named factored e = bad script.table (print_line script.factor ∷ []) named e
+first_line-nil : first_line [] ≡ []
+unfolding first_line
+first_line-nil = refl
 
--- nor a second line
-pub no_print : (bits : ℕ) (before after : Lines) (name : List ℕ) → before ≡ read_line name ∷ after → NeverFactor bits after → NeverScript bits before
-no_print bits before after name begins bad other named factored e =
-    let both : read_line name ∷ after ≡ read_line other.table ∷ print_line other.factor ∷ [] = sym begins ∙ e in
-    let second : after ≡ print_line other.factor ∷ [] = cc in
-    bad other.factor [] factored second
+one_line : (rest line : List ℕ) → first_line rest ≡ line → (line ≡ [] → ⊥) → after_line rest ≡ [] → lines_of rest ≡ line ∷ []
+one_line [] line e some end = absurd (some (sym e ∙ first_line-nil))
+one_line (b ∷ bs) line e some end = lines_of-cons (b ∷ bs) (omega arith) ∙ rw (e, end, lines_of-nil) refl
 
--- nor more lines
-pub no_end : (bits : ℕ) (before middle after : Lines) (name line : List ℕ) → before ≡ read_line name ∷ middle → middle ≡ line ∷ after → (after ≡ [] → ⊥) → NeverScript bits before
-no_end bits before middle after name line begins second bad other named factored e =
-    let both : read_line name ∷ middle ≡ read_line other.table ∷ print_line other.factor ∷ [] = sym begins ∙ e in
-    let rest : middle ≡ print_line other.factor ∷ [] = cc in
-    let one : line ∷ after ≡ print_line other.factor ∷ [] = sym second ∙ rest in
-    bad (cc)
+both_lines : (text first second : List ℕ) → first_line text ≡ first → (first ≡ [] → ⊥) → first_line (after_line text) ≡ second → (second ≡ [] → ⊥) → after_line (after_line text) ≡ [] → lines_of text ≡ first ∷ second ∷ []
+both_lines [] first second e some f more end = absurd (some (sym e ∙ first_line-nil))
+both_lines (b ∷ bs) first second e some f more end = lines_of-cons (b ∷ bs) (omega arith) ∙ rw (e, one_line (after_line (b ∷ bs)) second f more end) refl
 
-tells_on : (e : LineFault) (P Q : Type 0) → (P → Q) → Refuses e P → Refuses e Q
-tells_on Form P Q so h = so h
-tells_on Read P Q so h = tt
-tells_on Memory P Q so h = tt
+print_some : (factor : Option ℕ) → print_line factor ≡ [] → ⊥
+print_some None e = absurd (cc)
+print_some (Some k) e = absurd (cc)
 
--- what follows from what a fault tells
-pub tells : TellsOn Refuses
-tells = record { on = tells_on }
+-- a text whose two lines are those of a sum script is that script
+pub script_found : (bits : ℕ) (text : List ℕ) (script : SumScript) → bits ≤ 63 → length text ≤ script_limit → IsReadLine (first_line text) script.table
+    → first_line (after_line text) ≡ print_line script.factor → is_factor bits script.factor ≡ true → after_line (after_line text) ≡ [] → sum_script_in bits script_limit text ≡ Some script
+script_found bits text script few short read print factored end = sum_script_in-complete bits script_limit text script few (record {
+  named = read.1;
+  factored = factored;
+  short = short;
+  lines = both_lines text (read_line script.table) (print_line script.factor) read.0 (λ e. absurd (cc)) print (print_some script.factor) end;
+})
+
+-- the lines of a text of two
+record HasTwo (text read print : List ℕ) : Type 0 where
+  first : first_line text ≡ read
+  second : first_line (after_line text) ≡ print
+  end : after_line (after_line text) ≡ []
+
+last_line : (text line : List ℕ) → lines_of text ≡ line ∷ [] → (first_line text ≡ line) × (after_line text ≡ [])
+last_line [] line e = let none = sym lines_of-nil ∙ e in absurd (cc)
+last_line (b ∷ bs) line e =
+    let one = sym (lines_of-cons (b ∷ bs) (omega arith)) ∙ e in
+    let first : first_line (b ∷ bs) ≡ line = cc in
+    let rest : lines_of (after_line (b ∷ bs)) ≡ [] = cc in
+    (first, lines_of-empty _ rest)
+
+two_lines : (text first second : List ℕ) → lines_of text ≡ first ∷ second ∷ [] → HasTwo text first second
+two_lines [] first second e = let none = sym lines_of-nil ∙ e in absurd (cc)
+two_lines (b ∷ bs) first second e =
+    let one = sym (lines_of-cons (b ∷ bs) (omega arith)) ∙ e in
+    let here : first_line (b ∷ bs) ≡ first = cc in
+    let rest : lines_of (after_line (b ∷ bs)) ≡ second ∷ [] = cc in
+    let last = last_line (after_line (b ∷ bs)) second rest in
+    record { first = here; second = last.0; end = last.1 }
+
+none_of : {X : Type 0} (o : Option X) → ((x : X) → o ≡ Some x → ⊥) → o ≡ None
+none_of None h = refl
+none_of (Some x) h = absurd (h x refl)
+
+lines_in : (bits : ℕ) (text : List ℕ) (script : SumScript) → sum_script_in bits script_limit text ≡ Some script → HasTwo text (read_line script.table) (print_line script.factor)
+lines_in bits text script e = two_lines text _ _ (sum_script_in-sound bits script_limit text script e).lines
+
+-- a text whose first line reads no table is no sum script
+pub no_read : (bits : ℕ) (text : List ℕ) → IsNoReadLine (first_line text) → sum_script_in bits script_limit text ≡ None
+no_read bits text bad = none_of (sum_script_in bits script_limit text) (λ script e. bad script.table (sum_script_in-sound bits script_limit text script e).named (lines_in bits text script e).first)
+
+-- nor is one whose second line prints nothing
+pub no_print : (bits : ℕ) (text : List ℕ) → IsNoPrintLine bits (first_line (after_line text)) → sum_script_in bits script_limit text ≡ None
+no_print bits text bad = none_of (sum_script_in bits script_limit text) (λ script e. bad script.factor (sum_script_in-sound bits script_limit text script e).factored (lines_in bits text script e).second)
+
+-- nor is one of more lines
+pub no_end : (bits : ℕ) (text : List ℕ) → (after_line (after_line text) ≡ [] → ⊥) → sum_script_in bits script_limit text ≡ None
+no_end bits text more = none_of (sum_script_in bits script_limit text) (λ script e. more (lines_in bits text script e).end)

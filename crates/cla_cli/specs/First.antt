@@ -22,10 +22,10 @@ Scales bits k width codes tuples columns_of codes_of dictionary_of (Err (Op faul
     fault_of bits (length codes) width (exactly (scaled_entry (cell_of codes tuples) k)) ≡ Some fault
 Scales bits k width codes tuples columns_of codes_of dictionary_of (Err Memory) = Unit {0}
 
--- n map evaluations were made, or at most as many where the call was refused
+-- n map evaluations were made and counted, or at most as many where the call was refused
 abbrev pub HasMaps : {T : Type 0} → ℕ → Counts → Counts → Result T Refused → Type 0
 HasMaps n before now (Ok x) = now ≡ record before { maps = before.maps + n }
-HasMaps n before now (Err refused) = (now.mults ≡ before.mults) × (now.maps ≤ before.maps + n)
+HasMaps n before now (Err refused) = (now.mults ≡ before.mults) × (before.maps ≤ now.maps) × (now.maps ≤ before.maps + n)
 
 -- the values of all tuples in a row: each value's first cell, by its place row by row, and its exact product
 abbrev pub first_place : List ℕ → ℕ → ℕ → ℕ

@@ -4,8 +4,8 @@ pub mod Products
 pub mod Words
 pub mod Texts
 pub mod Factor
+pub mod Outcome
 pub mod Script
 pub mod Needed
-pub mod Outcome
 pub mod Run
 pub mod Parts

@@ -1,6 +1,8 @@
 -- The files that a command needs.
-use Rattle.std.specs.Prelude.{◌≡◌, ℕ, ◌≤◌, ◌^◌, List, Option, Some, None, Result, Ok, Err}
+use Rattle.std.specs.Prelude.{◌≡◌, ℕ, ◌<◌, ◌≤◌, List, length, Option, Some, None, Result, Ok, Err}
 use Rattle.std.specs.FinMap as fin
+use Rattle.std.specs.declared.vec.Vec.{Vec}
+use Rattle.std.specs.declared.alloc.Global.{Global}
 use Rattle.cla_spec.specs.Files.{Told}
 use Rattle.cla_spec.specs.Matrix.{Matrix}
 use Rattle.cla_spec.specs.ArrayFile.{array_in}
@@ -9,66 +11,72 @@ use Rattle.cla_io.specs.State.{State, Reading}
 use Rattle.cla_io.specs.Counts.{Rose}
 use Rattle.cla_mtx.specs.declared.fault.MtxFault.{MtxFault}
 use Rattle.cla_mtx.specs.declared.fault.MtxFault.TheVariants as mtx
-use Rattle.cla_cli.specs.declared.stopped.Stopped.{Stopped}
-use Rattle.cla_cli.specs.declared.stopped.Stopped.TheVariants.{Missing, Fault, Memory, Refused}
+use Rattle.cla_cli.specs.declared.unread.Unread.{Unread}
+use Rattle.cla_cli.specs.declared.unread.Unread.TheVariants.{Missing, Fault, Memory, Refused}
+use Rattle.cla_cli.specs.declared.unread.ScriptFault.{ScriptFault}
+use Rattle.cla_cli.specs.declared.unread.ScriptFault.TheVariants.{TooLong, Form}
+use Rattle.cla_cli.specs.Outcome.{script_limit, table_limit}
 
--- how many bytes a script and a table may have
-abbrev pub script_limit : ℕ
-script_limit = 2 ^ 20
+-- a file is missing only where misses rose, and can't be read only where faults of reading rose; each count stays with
+-- every other answer
+abbrev pub HasUnreadCause : {T R : Type 0} → State → State → Result T (Unread R) → Type 0
+HasUnreadCause old new (Err Missing) = Rose old.misses new.misses × (new.read_faults ≡ old.read_faults)
+HasUnreadCause old new (Err Fault) = (new.misses ≡ old.misses) × Rose old.read_faults new.read_faults
+HasUnreadCause old new (Err Memory) = (new.misses ≡ old.misses) × (new.read_faults ≡ old.read_faults)
+HasUnreadCause old new (Err (Refused r)) = (new.misses ≡ old.misses) × (new.read_faults ≡ old.read_faults)
+HasUnreadCause old new (Ok x) = (new.misses ≡ old.misses) × (new.read_faults ≡ old.read_faults)
 
-abbrev pub table_limit : ℕ
-table_limit = 2 ^ 32
+-- no other file than this one is being read
+abbrev pub ReadsNoOther : List ℕ → Option Reading → Type 0
+ReadsNoOther name None = Unit {0}
+ReadsNoOther name (Some r) = r.name ≡ name
 
--- nothing but the file that is being read and counts of reading changed
-pub record OnlyRead (old new : State) : Type 0 where
-  pub told : new.told ≡ old.told
-  pub steady : new.steady ≡ old.steady
-  pub read_faults : old.read_faults ≤ new.read_faults
-  pub misses : old.misses ≤ new.misses
+-- What is known of a file that has to be there. `Holds` says what an answer tells of its text, and `Refuses` what a refusal
+-- tells of it.
+abbrev pub ReadsIn : {T R : Type 0} → (List ℕ → T → Type 0) → (List ℕ → R → Type 0) → Told → List ℕ → Result T (Unread R) → Type 0
+ReadsIn Holds Refuses told name (Ok x) = (text : List ℕ) × (fin.get told name ≡ Some text) × Holds text x
+ReadsIn Holds Refuses told name (Err Missing) = fin.get told name ≡ None
+ReadsIn Holds Refuses told name (Err Fault) = Unit {0}
+ReadsIn Holds Refuses told name (Err Memory) = Unit {0}
+ReadsIn Holds Refuses told name (Err (Refused r)) = (text : List ℕ) × (fin.get told name ≡ Some text) × Refuses text r
 
--- a file is missing only where misses rose, and can't be read only where faults of reading rose
-abbrev pub HasStopCause : {T R : Type 0} → State → State → Result T (Stopped R) → Type 0
-HasStopCause old new (Ok x) = Unit {0}
-HasStopCause old new (Err Missing) = Rose old.misses new.misses
-HasStopCause old new (Err Fault) = Rose old.read_faults new.read_faults
-HasStopCause old new (Err Memory) = Unit {0}
-HasStopCause old new (Err (Refused r)) = Unit {0}
+abbrev pub ReadsWhereTold : {T R : Type 0} → (List ℕ → T → Type 0) → (List ℕ → R → Type 0) → Option Told → List ℕ → Result T (Unread R) → Type 0
+ReadsWhereTold Holds Refuses None name result = Unit {0}
+ReadsWhereTold Holds Refuses (Some told) name result = ReadsIn Holds Refuses told name result
 
--- what is known of a file that has to be there
-abbrev pub OpensIn : {R : Type 0} → Told → List ℕ → Option Reading → Result (Unit {0}) (Stopped R) → Type 0
-OpensIn told name reading (Ok u) = (text : List ℕ) × (fin.get told name ≡ Some text) × (reading ≡ Some (record { name = name; place = 0 }))
-OpensIn told name reading (Err Missing) = fin.get told name ≡ None
-OpensIn told name reading (Err Fault) = Unit {0}
-OpensIn told name reading (Err Memory) = Unit {0}
-OpensIn told name reading (Err (Refused r)) = ⊥
+-- a file that was opened is read from its first byte
+abbrev pub Opens : {R : Type 0} → Option Told → List ℕ → Option Reading → Result (Unit {0}) (Unread R) → Type 0
+Opens {R} told name reading (Ok u) = (reading ≡ Some (record { name = name; place = 0 })) × ReadsWhereTold {T = Unit {0}} {R = R} (λ text u. Unit {0}) (λ text r. ⊥) told name (Ok u)
+Opens {R} told name reading (Err e) = (reading ≡ None) × ReadsWhereTold {T = Unit {0}} {R = R} (λ text u. Unit {0}) (λ text r. ⊥) told name (Err e)
 
-abbrev pub OpensWhereTold : {R : Type 0} → Option Told → List ℕ → Option Reading → Result (Unit {0}) (Stopped R) → Type 0
-OpensWhereTold None name reading result = Unit {0}
-OpensWhereTold (Some told) name reading result = OpensIn told name reading result
+-- the whole text of a script
+abbrev pub IsText : List ℕ → Vec ℕ Global → Type 0
+IsText text bytes = (bytes.items ≡ text) × (length text ≤ script_limit)
 
-abbrev pub Opens : {R : Type 0} → List ℕ → State → State → Result (Unit {0}) (Stopped R) → Type 0
-Opens name old new result = OpensWhereTold old.told name new.reading result
+abbrev pub IsTooLong : List ℕ → ScriptFault → Type 0
+IsTooLong text TooLong = script_limit < length text
+IsTooLong text Form = ⊥
 
--- what reading a script answers, where the files tell
-abbrev pub ReadsScriptIn : ℕ → Told → List ℕ → Result SumScript (Stopped (Unit {0})) → Type 0
-ReadsScriptIn bits told name (Ok script) = (text : List ℕ) × (fin.get told name ≡ Some text) × (sum_script_in bits script_limit text ≡ Some script)
-ReadsScriptIn bits told name (Err Missing) = fin.get told name ≡ None
-ReadsScriptIn bits told name (Err Fault) = Unit {0}
-ReadsScriptIn bits told name (Err Memory) = Unit {0}
-ReadsScriptIn bits told name (Err (Refused u)) = (text : List ℕ) × (fin.get told name ≡ Some text) × (sum_script_in bits script_limit text ≡ None)
+abbrev pub ReadsText : Option Told → List ℕ → Result (Vec ℕ Global) (Unread ScriptFault) → Type 0
+ReadsText told name result = ReadsWhereTold IsText IsTooLong told name result
 
-abbrev pub ReadsScript : ℕ → Option Told → List ℕ → Result SumScript (Stopped (Unit {0})) → Type 0
-ReadsScript bits None name result = Unit {0}
-ReadsScript bits (Some told) name result = ReadsScriptIn bits told name result
+-- a script
+abbrev pub IsScript : ℕ → List ℕ → SumScript → Type 0
+IsScript bits text script = (length text ≤ script_limit) × (sum_script_in bits script_limit text ≡ Some script)
 
--- what reading a table answers, where the files tell
-abbrev pub ReadsTableIn : ℕ → Told → List ℕ → Result Matrix (Stopped MtxFault) → Type 0
-ReadsTableIn bits told name (Ok m) = (text : List ℕ) × (fin.get told name ≡ Some text) × (array_in bits table_limit text ≡ Some m)
-ReadsTableIn bits told name (Err Missing) = fin.get told name ≡ None
-ReadsTableIn bits told name (Err Fault) = Unit {0}
-ReadsTableIn bits told name (Err Memory) = Unit {0}
-ReadsTableIn bits told name (Err (Refused fault)) = (fault ≡ mtx.Banner 1) × ((text : List ℕ) × (fin.get told name ≡ Some text) × (array_in bits table_limit text ≡ None))
+abbrev pub IsNoScript : ℕ → List ℕ → ScriptFault → Type 0
+IsNoScript bits text TooLong = script_limit < length text
+IsNoScript bits text Form = (length text ≤ script_limit) × (sum_script_in bits script_limit text ≡ None)
 
-abbrev pub ReadsTable : ℕ → Option Told → List ℕ → Result Matrix (Stopped MtxFault) → Type 0
-ReadsTable bits None name result = Unit {0}
-ReadsTable bits (Some told) name result = ReadsTableIn bits told name result
+abbrev pub ReadsScript : ℕ → Option Told → List ℕ → Result SumScript (Unread ScriptFault) → Type 0
+ReadsScript bits told name result = ReadsWhereTold (IsScript bits) (IsNoScript bits) told name result
+
+-- a table
+abbrev pub IsTable : ℕ → List ℕ → Matrix → Type 0
+IsTable bits text m = array_in bits table_limit text ≡ Some m
+
+abbrev pub IsNoTable : ℕ → List ℕ → MtxFault → Type 0
+IsNoTable bits text fault = (fault ≡ mtx.Banner 1) × (array_in bits table_limit text ≡ None)
+
+abbrev pub ReadsTable : ℕ → Option Told → List ℕ → Result Matrix (Unread MtxFault) → Type 0
+ReadsTable bits told name result = ReadsWhereTold (IsTable bits) (IsNoTable bits) told name result

@@ -1,14 +1,49 @@
 -- The texts that the program writes.
 use Rattle.std.specs.Prelude.{ℕ, ℤ, pos, List, [], ◌∷◌, ◌++◌, codes}
 use Rattle.cla_spec.specs.Numbers.{decimal_of}
+use Rattle.cla_spec.specs.Effects.{Effect, Out, File}
 use Rattle.cla_num.specs.declared.fault.What.{What}
 use Rattle.cla_num.specs.declared.fault.What.TheVariants.{Range, Zero}
 use Rattle.cla_num.specs.declared.fault.OpFault.{OpFault}
 use Rattle.cla_cli.specs.declared.status.Place.{Place}
+use Rattle.cla_cli.specs.declared.status.BadKind.{BadKind}
+use Rattle.cla_cli.specs.declared.status.BadKind.TheVariants.{Script}
+use Rattle.cla_cli.specs.declared.status.ScriptKind.{ScriptKind}
+use Rattle.cla_cli.specs.declared.status.ScriptKind.TheVariants.{Syntax}
 
 -- a number on a line of its own
 abbrev pub number_line : ℤ → List ℕ
 number_line v = decimal_of v ++ 10 ∷ []
+
+abbrev pub memory_line : List ℕ
+memory_line = codes "out of memory\n"
+
+abbrev pub usage_line : List ℕ
+usage_line = codes "usage: cla COMMAND WORDS\n"
+
+abbrev pub missing_line : List ℕ → List ℕ
+missing_line name = codes "missing file " ++ name ++ codes "\n"
+
+abbrev pub unreadable_line : List ℕ → List ℕ
+unreadable_line name = codes "cannot read " ++ name ++ codes "\n"
+
+-- the line of an effect that can't be written
+abbrev pub unwritable_line : Effect → List ℕ
+unwritable_line (Out text) = codes "cannot write output\n"
+unwritable_line (File name bytes) = codes "cannot write " ++ name ++ codes "\n"
+
+abbrev pub limit_line : List ℕ → ℕ → List ℕ
+limit_line name bytes = codes "limit " ++ name ++ codes ": more than " ++ decimal_of (pos bytes) ++ codes " bytes\n"
+
+-- the name of a kind
+abbrev pub kind_text : ScriptKind → List ℕ
+kind_text Syntax = codes "Syntax"
+
+abbrev pub bad_kind_text : BadKind → List ℕ
+bad_kind_text (Script kind) = kind_text kind
+
+abbrev pub script_line : Place → BadKind → List ℕ
+script_line place kind = codes "script " ++ decimal_of (pos place.line) ++ codes ":" ++ decimal_of (pos place.col) ++ codes ": " ++ bad_kind_text kind ++ codes "\n"
 
 -- what is wrong with an entry
 abbrev pub reason_text : What → List ℕ

@@ -1,12 +1,13 @@
 //! What a sum script comes to over its table.
 
-ghost use Rattle.std.specs.Prelude.{length};
+ghost use Rattle.std.specs.Prelude.{◌≡◌, ◌+◌, ◌*◌, length};
+ghost use Rattle.std.specs.Option.{option_map};
 ghost use Rattle.cla_spec.specs.Matrix.{Matrix, sum_of_entries};
 ghost use Rattle.cla_num.specs.Bits.{IsSupported};
 ghost use Rattle.cla_num.specs.Counts.{AreBelow, run_bound, kernel_bound};
 ghost use Rattle.cla_group.specs.Groups.{cell_of, GroupStandsFor};
-ghost use Rattle.cla_cli.specs.Outcome.{exact_outcome};
-ghost use Rattle.cla_cli.specs.Parts.{Comes, Evaluates};
+ghost use Rattle.cla_cli.specs.Outcome.{exact_trace, factor_trace, factor_counts};
+ghost use Rattle.cla_cli.specs.Parts.{ComesTo, CountsTo};
 
 use crate::first::{scale_group, sum_group};
 use crate::status::Place;
@@ -32,7 +33,8 @@ pub(crate) fn evaluate<N: Number>(
 ) -> Result<N, Failed>
     requires bits { IsSupported N.BITS }
     requires room { AreBelow run_bound meter.old }
-    ensures { Evaluates N.value N.BITS factor m result }
+    ensures sum { ComesTo N.value (factor_trace N.BITS (option_map N.value factor) m) result }
+    ensures counts { CountsTo (factor_counts (option_map N.value factor) (m.rows * m.cols)) meter.old meter.new result }
 {
     let width = m.cols();
     let table = Plain::from_rows(width, Vec::from(m));
@@ -48,7 +50,8 @@ fn evaluate_group<N: Number, G: Owned<N> + Drop>(
 ) -> Result<N, Failed>
     requires bits { IsSupported N.BITS }
     requires room { AreBelow run_bound meter.old }
-    ensures { (m : Matrix) → GroupStandsFor (G.columns table.now) (G.codes table.now) (G.dictionary table.now) m → Evaluates N.value N.BITS factor m result }
+    ensures sum { (m : Matrix) → GroupStandsFor (G.columns table.now) (G.codes table.now) (G.dictionary table.now) m → ComesTo N.value (factor_trace N.BITS (option_map N.value factor) m) result }
+    ensures counts { CountsTo (factor_counts (option_map N.value factor) (length (G.dictionary table.now) * G.columns table.now)) meter.old meter.new result }
 {
     let Some(k) = factor else {
         return summed(table, meter);
@@ -67,7 +70,8 @@ fn evaluate_group<N: Number, G: Owned<N> + Drop>(
 fn summed<N: Number, G: Group<N>>(g: &G, meter: &mut Meter) -> Result<N, Failed>
     requires bits { IsSupported N.BITS }
     requires room { AreBelow kernel_bound meter.old }
-    ensures { Comes N.value (exact_outcome N.BITS (sum_of_entries (length (G.codes g.now)) (G.columns g.now) (cell_of (G.codes g.now) (G.dictionary g.now)))) result }
+    ensures sum { ComesTo N.value (exact_trace N.BITS (sum_of_entries (length (G.codes g.now)) (G.columns g.now) (cell_of (G.codes g.now) (G.dictionary g.now)))) result }
+    ensures counts { meter.new ≡ record meter.old { mults = meter.old.mults + length (G.dictionary g.now) * G.columns g.now } }
 {
     match sum_group(g, meter) {
         Ok(sum) => Ok(sum),

@@ -6,14 +6,15 @@ mod first;
 #[cfg(test)]
 mod first_tests;
 mod misfit;
+mod lines;
 mod needed;
-mod print;
 mod script;
 mod status;
-mod stopped;
 #[cfg(test)]
 mod tests;
 mod top;
+mod unfinished;
+mod unread;
 mod words;
 
 pub use status::{BadKind, FileFault, Place, ScriptKind, Status, code};

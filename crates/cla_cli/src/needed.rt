@@ -1,19 +1,20 @@
 //! The files that a command needs: its script and its table.
 
-ghost use Rattle.std.specs.Prelude.{OnOk};
-ghost use Rattle.cla_io.specs.InputFrame.{IsAtStart};
+ghost use Rattle.std.specs.Prelude.{◌≡◌, ◌≤◌, OnOk, IfOk, length};
+ghost use Rattle.cla_io.specs.Reads.{OnlyReads};
 ghost use Rattle.cla_num.specs.Bits.{IsSupported};
-ghost use Rattle.cla_cli.specs.Needed.{OnlyRead, HasStopCause, Opens, ReadsScript, ReadsTable};
+ghost use Rattle.cla_cli.specs.Outcome.{script_limit};
+ghost use Rattle.cla_cli.specs.Needed.{HasUnreadCause, ReadsNoOther, Opens, ReadsText, ReadsScript, ReadsTable};
 
-use crate::script::{LineFault, SumScript, read_sum_script};
-use crate::stopped::Stopped;
-use cla_io::{Files, Input, Stop};
+use crate::script::{SumScript, sum_script_in};
+use crate::unread::{ScriptFault, Unread};
+use cla_io::{Files, InFault, Input, Stop};
 use cla_mtx::{MtxFault, read_mtx};
 use cla_num::{Dense, Number};
 use std::alloc::Global;
 
 /// How many bytes a script may have.
-const SCRIPT_BYTES: u64 = 1 << 20;
+pub(crate) const SCRIPT_BYTES: u64 = 1 << 20;
 
 /// How many bytes a table may have.
 const TABLE_BYTES: u64 = 1 << 32;
@@ -23,21 +24,48 @@ pub(crate) fn read_script<N: Number, F: Files>(
     alloc: Global,
     files: &mut F,
     name: &str,
-) -> Result<SumScript<N>, Stopped<()>>
+) -> Result<SumScript<N>, Unread<ScriptFault>>
     requires { IsSupported N.BITS }
-    ensures frame { OnlyRead (F.state files.old) (F.state files.new) }
-    ensures cause { HasStopCause (F.state files.old) (F.state files.new) result }
+    ensures frame { OnlyReads (F.state files.old) (F.state files.new) }
+    ensures cause { HasUnreadCause (F.state files.old) (F.state files.new) result }
+    ensures no_other { ReadsNoOther name.now (F.state files.new).reading }
     ensures reads { ReadsScript N.BITS (F.state files.old).told name.now result }
 {
-    open(files, name)?;
-    let Ok(mut input) = Input::new(alloc, files, SCRIPT_BYTES) else {
-        return Err(Stopped::Memory);
+    let text = match read_text(alloc, files, name) {
+        Ok(text) => text,
+        Err(unread) => return Err(unread),
     };
-    match read_sum_script(alloc, &mut input) {
-        Ok(script) => Ok(script),
-        Err(LineFault::Form) => Err(Stopped::Refused(())),
-        Err(LineFault::Read) => Err(Stopped::Fault),
-        Err(LineFault::Memory) => Err(Stopped::Memory),
+    match sum_script_in(alloc, &text) {
+        Ok(Some(script)) => Ok(script),
+        Ok(None) => Err(Unread::Refused(ScriptFault::Form)),
+        Err(_) => Err(Unread::Memory),
+    }
+}
+
+// The whole text of a script.
+fn read_text<F: Files>(
+    alloc: Global,
+    files: &mut F,
+    name: &str,
+) -> Result<Vec<u8>, Unread<ScriptFault>>
+    ensures frame { OnlyReads (F.state files.old) (F.state files.new) }
+    ensures cause { HasUnreadCause (F.state files.old) (F.state files.new) result }
+    ensures no_other { ReadsNoOther name.now (F.state files.new).reading }
+    ensures short { IfOk result (λ text. length text.items ≤ script_limit) }
+    ensures reads { ReadsText (F.state files.old).told name.now result }
+{
+    match open(files, name) {
+        Ok(()) => (),
+        Err(unread) => return Err(unread),
+    }
+    let Ok(mut input) = Input::new(alloc, files, SCRIPT_BYTES) else {
+        return Err(Unread::Memory);
+    };
+    match input.whole() {
+        Ok(text) => Ok(text),
+        Err(InFault::TooLong) => Err(Unread::Refused(ScriptFault::TooLong)),
+        Err(InFault::Read) => Err(Unread::Fault),
+        Err(InFault::Memory) => Err(Unread::Memory),
     }
 }
 
@@ -46,35 +74,38 @@ pub(crate) fn read_table<N: Number, F: Files>(
     alloc: Global,
     files: &mut F,
     name: &str,
-) -> Result<Dense<N>, Stopped<MtxFault>>
+) -> Result<Dense<N>, Unread<MtxFault>>
     requires { IsSupported N.BITS }
-    ensures frame { OnlyRead (F.state files.old) (F.state files.new) }
-    ensures cause { HasStopCause (F.state files.old) (F.state files.new) result }
+    ensures frame { OnlyReads (F.state files.old) (F.state files.new) }
+    ensures cause { HasUnreadCause (F.state files.old) (F.state files.new) result }
+    ensures no_other { ReadsNoOther name.now (F.state files.new).reading }
     ensures reads { ReadsTable N.BITS (F.state files.old).told name.now result }
 {
-    open(files, name)?;
+    match open(files, name) {
+        Ok(()) => (),
+        Err(unread) => return Err(unread),
+    }
     let Ok(mut input) = Input::new(alloc, files, TABLE_BYTES) else {
-        return Err(Stopped::Memory);
+        return Err(Unread::Memory);
     };
     match read_mtx(alloc, &mut input) {
         Ok(m) => Ok(m),
-        Err(MtxFault::Banner { line }) => Err(Stopped::Refused(MtxFault::Banner { line })),
-        Err(MtxFault::Read) => Err(Stopped::Fault),
-        Err(MtxFault::Memory) => Err(Stopped::Memory),
+        Err(MtxFault::Banner { line }) => Err(Unread::Refused(MtxFault::Banner { line })),
+        Err(MtxFault::Read) => Err(Unread::Fault),
+        Err(MtxFault::Memory) => Err(Unread::Memory),
     }
 }
 
 // Begins to read a file that has to be there.
-fn open<F: Files, T>(files: &mut F, name: &str) -> Result<(), Stopped<T>>
-    ensures frame { OnlyRead (F.state files.old) (F.state files.new) }
-    ensures cause { HasStopCause (F.state files.old) (F.state files.new) result }
-    ensures start { OnOk result (IsAtStart (F.state files.new).reading) }
-    ensures opens { Opens name.now (F.state files.old) (F.state files.new) result }
+fn open<F: Files, R>(files: &mut F, name: &str) -> Result<(), Unread<R>>
+    ensures frame { OnlyReads (F.state files.old) (F.state files.new) }
+    ensures cause { HasUnreadCause (F.state files.old) (F.state files.new) result }
+    ensures opens { Opens (F.state files.old).told name.now (F.state files.new).reading result }
 {
     match files.begin_read(name) {
         Ok(true) => Ok(()),
-        Ok(false) => Err(Stopped::Missing),
-        Err(Stop::Failed) => Err(Stopped::Fault),
-        Err(Stop::Memory) => Err(Stopped::Memory),
+        Ok(false) => Err(Unread::Missing),
+        Err(Stop::Failed) => Err(Unread::Fault),
+        Err(Stop::Memory) => Err(Unread::Memory),
     }
 }

@@ -1,22 +1,19 @@
 //! The script: today a sum script, which reads one table and prints the sum of its entries, or of its
 //! entries times a number.
 
-ghost use Rattle.std.specs.Prelude.{◌≡◌, ◌≤◌, IfOk, OnOk, IfSome, Some, MatchOption, nat_eq, pos};
+ghost use Rattle.std.specs.Prelude.{◌≡◌, ◌≤◌, IfSome, Some, MatchOption, nat_eq, pos, drop, length};
 ghost use Rattle.std.specs.Cmp.Lexicographic.{pointwise};
-ghost use Rattle.std.specs.List.{list_all};
+ghost use Rattle.std.specs.List.{list_all, position_or_len};
 ghost use Rattle.std.specs.Option.{option_map};
-ghost use Rattle.cla_io.specs.State.{left};
-ghost use Rattle.cla_io.specs.InputFrame.{ReadsOn};
-ghost use Rattle.cla_io.specs.Lines.{ahead_of};
-ghost use Rattle.cla_io.specs.Steps.{StepWhereTold, Takes, Never, Ends, NeverEnds};
 ghost use Rattle.cla_num.specs.Bits.{IsSupported};
+ghost use Rattle.cla_spec.specs.Lines.{is_lf, without_cr, first_line, after_line};
 ghost use Rattle.cla_spec.specs.Numbers.{decimal_of};
 ghost use Rattle.cla_spec.specs.SumScript.{is_text, is_text_byte};
 ghost use Rattle.cla_cli.specs.Factor.{IsFactor, IsNoFactor, IsReadBack};
-ghost use Rattle.cla_cli.specs.Script.{Refuses, HasLineCause, IsReadLine, IsNoReadLine, TakesName, NeverName, IsPrintLine, IsNoPrintLine, TakesFactor, NeverFactor, TakesScript, NeverScript};
+ghost use Rattle.cla_cli.specs.Outcome.{script_limit};
+ghost use Rattle.cla_cli.specs.Script.{IsReadLine, IsNoReadLine, IsPrintLine, IsNoPrintLine, FindsScript};
 
-use cla_io::{Files, InFault, Input};
-use cla_num::{Name, Number};
+use cla_num::{Memory, Name, Number};
 use cla_text::read_int;
 use std::alloc::Global;
 use std::marker::Model;
@@ -57,96 +54,70 @@ impl<N: Number> SumScript<N> {
     }
 }
 
-/// Reading a script stopped: it isn't of the form, it can't be read, or memory is wanting.
-#[derive(Debug, Drop)]
-pub(crate) enum LineFault {
-    Form,
-    Read,
-    Memory,
-}
-
-/// The sum script that the whole text is.
-pub(crate) fn read_sum_script<N: Number, F: Files>(
+/// The sum script that a text is, if it is one.
+pub(crate) fn sum_script_in<N: Number>(
     alloc: Global,
-    input: &mut Input<'_, F>,
-) -> Result<SumScript<N>, LineFault>
-    requires { IsSupported N.BITS }
-    ensures same_reference { input.new.files.ghost_name ≡ input.old.files.ghost_name }
-    ensures frame { ReadsOn (F.state input.old.files.now) (F.state input.new.files.now) }
-    ensures cause { HasLineCause (F.state input.old.files.now).read_faults (F.state input.new.files.now).read_faults result }
-    ensures limit { input.new.taken.limit ≡ input.old.taken.limit }
-    ensures in_limit { OnOk result (input.new.taken.at ≤ input.new.taken.limit) }
-    ensures step { StepWhereTold Refuses (TakesScript N.BITS) (NeverScript N.BITS) input.old.taken input.new.taken (ahead_of input.old.taken (left (F.state input.old.files.now))) (ahead_of input.new.taken (left (F.state input.new.files.now))) result }
+    text: &[u8],
+) -> Result<Option<SumScript<N>>, Memory>
+    requires bits { IsSupported N.BITS }
+    requires short { length text.now ≤ script_limit }
+    ensures { FindsScript N.BITS text.now result }
 {
-    let table = read_name(alloc, input)?;
-    let factor = read_factor(input)?;
-    expect_end(input)?;
-    Ok(SumScript { table, factor })
+    let (read, rest) = cut_line(text);
+    let (print, rest) = cut_line(rest);
+    let Some(table) = text_in(read) else {
+        return Ok(None);
+    };
+    let Some(factor) = factor_in(print) else {
+        return Ok(None);
+    };
+    if !rest.is_empty() {
+        return Ok(None);
+    }
+    let table = Name::of(alloc, table)?;
+    Ok(Some(SumScript { table, factor }))
 }
 
-fn next<F: Files>(input: &mut Input<'_, F>) -> Result<bool, LineFault>
-    ensures same_reference { input.new.files.ghost_name ≡ input.old.files.ghost_name }
-    ensures frame { ReadsOn (F.state input.old.files.now) (F.state input.new.files.now) }
-    ensures cause { HasLineCause (F.state input.old.files.now).read_faults (F.state input.new.files.now).read_faults result }
-    ensures limit { input.new.taken.limit ≡ input.old.taken.limit }
-    ensures in_limit { OnOk result (input.new.taken.at ≤ input.new.taken.limit) }
-    ensures step { StepWhereTold Refuses (Takes input.new.taken.line) Never input.old.taken input.new.taken (ahead_of input.old.taken (left (F.state input.old.files.now))) (ahead_of input.new.taken (left (F.state input.new.files.now))) result }
+// The first line of a text, without its end, and what stands behind it.
+#[tactic(auto, unfolding(cla_spec::specs::Lines::first_line, cla_spec::specs::Lines::after_line))]
+fn cut_line(text: &[u8]) -> (&[u8], &[u8])
+    ensures line { result.0.now ≡ first_line text.now }
+    ensures rest { result.1.now ≡ after_line text.now }
 {
-    match input.next_line() {
-        Ok(more) => Ok(more),
-        Err(InFault::Read) => Err(LineFault::Read),
-        Err(InFault::TooLong) => Err(LineFault::Form),
-        Err(InFault::Memory) => Err(LineFault::Memory),
-    }
+    let (line, rest) = text.split_at(line_len(text));
+    (without_cr(line), behind_first(rest))
 }
 
-fn expect_end<F: Files>(input: &mut Input<'_, F>) -> Result<(), LineFault>
-    ensures same_reference { input.new.files.ghost_name ≡ input.old.files.ghost_name }
-    ensures frame { ReadsOn (F.state input.old.files.now) (F.state input.new.files.now) }
-    ensures cause { HasLineCause (F.state input.old.files.now).read_faults (F.state input.new.files.now).read_faults result }
-    ensures limit { input.new.taken.limit ≡ input.old.taken.limit }
-    ensures in_limit { OnOk result (input.new.taken.at ≤ input.new.taken.limit) }
-    ensures step { StepWhereTold Refuses Ends NeverEnds input.old.taken input.new.taken (ahead_of input.old.taken (left (F.state input.old.files.now))) (ahead_of input.new.taken (left (F.state input.new.files.now))) result }
+// Where the first LF stands, or the text's length where there is none.
+fn line_len(text: &[u8]) -> usize
+    ensures place { result ≡ position_or_len is_lf text.now }
+    ensures within { result ≤ length text.now }
 {
-    if next(input)? {
-        Err(LineFault::Form)
-    } else {
-        Ok(())
+    for i in 0..text.len() {
+        if text[i] == b'\n' {
+            return i;
+        }
     }
+    text.len()
 }
 
-// The name in the first line.
-fn read_name<F: Files>(alloc: Global, input: &mut Input<'_, F>) -> Result<Name, LineFault>
-    ensures same_reference { input.new.files.ghost_name ≡ input.old.files.ghost_name }
-    ensures frame { ReadsOn (F.state input.old.files.now) (F.state input.new.files.now) }
-    ensures cause { HasLineCause (F.state input.old.files.now).read_faults (F.state input.new.files.now).read_faults result }
-    ensures limit { input.new.taken.limit ≡ input.old.taken.limit }
-    ensures step { StepWhereTold Refuses TakesName NeverName input.old.taken input.new.taken (ahead_of input.old.taken (left (F.state input.old.files.now))) (ahead_of input.new.taken (left (F.state input.new.files.now))) result }
+fn without_cr(line: &[u8]) -> &[u8]
+    ensures { result.now ≡ without_cr line.now }
 {
-    if !next(input)? {
-        return Err(LineFault::Form);
-    }
-    let text = text_in(input.line()).ok_or(LineFault::Form)?;
-    match Name::of(alloc, text) {
-        Ok(name) => Ok(name),
-        Err(_) => Err(LineFault::Memory),
+    match line {
+        [front @ .., b'\r'] => front,
+        _ => line,
     }
 }
 
-// The factor of the second line.
-fn read_factor<N: Number, F: Files>(input: &mut Input<'_, F>) -> Result<Option<N>, LineFault>
-    requires { IsSupported N.BITS }
-    ensures same_reference { input.new.files.ghost_name ≡ input.old.files.ghost_name }
-    ensures frame { ReadsOn (F.state input.old.files.now) (F.state input.new.files.now) }
-    ensures cause { HasLineCause (F.state input.old.files.now).read_faults (F.state input.new.files.now).read_faults result }
-    ensures limit { input.new.taken.limit ≡ input.old.taken.limit }
-    ensures factor { IfOk result (λ factor. IsFactor N.value N.BITS factor) }
-    ensures step { StepWhereTold Refuses (TakesFactor N.value N.BITS) (NeverFactor N.BITS) input.old.taken input.new.taken (ahead_of input.old.taken (left (F.state input.old.files.now))) (ahead_of input.new.taken (left (F.state input.new.files.now))) result }
+// What stands behind the first byte, if there is one.
+fn behind_first(bytes: &[u8]) -> &[u8]
+    ensures { result.now ≡ drop 1 bytes.now }
 {
-    if !next(input)? {
-        return Err(LineFault::Form);
+    match bytes {
+        [_, rest @ ..] => rest,
+        [] => bytes,
     }
-    factor_in(input.line()).ok_or(LineFault::Form)
 }
 
 // The factor of a line that prints: `print(sum(X))` has none, and `print(sum(X * K))` has K.

@@ -8,7 +8,7 @@ use cla_num::OpFault;
 use thiserror::Error;
 
 /// What a command line comes to. [`code`] gives the exit status of the process.
-#[derive(Debug, Drop)]
+#[derive(Clone, Copy, Debug, PartialEq, Eq)]
 pub enum Status {
     /// The command was done.
     Done,
@@ -26,6 +26,8 @@ pub enum Status {
     BadScript { place: Place, kind: BadKind },
     /// A table isn't of the form that is read.
     BadFile { fault: FileFault },
+    /// A script is longer than its limit.
+    Limit,
     /// An operator has a cell out of range: the operator's place, and its first such cell.
     Operator { place: Place, fault: OpFault },
 }
@@ -50,7 +52,7 @@ pub enum ScriptKind {
 }
 
 /// Why a table is refused.
-#[derive(Debug, Drop, Error)]
+#[derive(Clone, Copy, Debug, PartialEq, Eq, Error)]
 pub enum FileFault {
     #[error("not an array file")]
     Mtx(MtxFault),
@@ -69,6 +71,7 @@ pub fn code(s: &Status) -> u8
         Status::WriteFault => 5,
         Status::BadScript { place: _, kind: _ } => 6,
         Status::BadFile { fault: _ } => 7,
+        Status::Limit => 8,
         Status::Operator { place: _, fault: _ } => 9,
     }
 }

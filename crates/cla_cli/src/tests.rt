@@ -2,10 +2,10 @@
 
 ghost use Rattle.cla_num.specs.Bits.{IsSupported};
 
-use crate::status::code;
+use crate::status::{BadKind, Place, ScriptKind, Status, code};
 use crate::top::run;
 use cla_io::{CallKind, MemFiles, MemSink};
-use cla_num::{Int, Meter, Name, Number};
+use cla_num::{Int, Meter, Name, Number, OpFault, What};
 use std::alloc::Global;
 use std::collections::BTreeMap;
 use std::test::Fail;
@@ -16,9 +16,10 @@ const SQUARE: &str = "%%MatrixMarket matrix array integer general\n2 2\n1\n3\n2\
 
 const BANNER: &str = "%%MatrixMarket matrix array integer general\n";
 
-/// What a run came to: the exit status, the output and standard error.
+/// What a run came to: its status, the exit status, the output and standard error.
 #[derive(Drop)]
 struct Came {
+    status: Status,
     code: u8,
     out: Vec<u8>,
     err: Vec<u8>,
@@ -78,6 +79,7 @@ fn ran<N: Number>(alloc: Global, words: &[&str], world: &World) -> Result<Came, 
     let mut meter = Meter::new();
     let status = run::<N, _, _, _>(alloc, &held, &mut files, &mut out, &mut err, &mut meter);
     Ok(Came {
+        status,
         code: code(&status),
         out: out.bytes().to_vec(alloc)?,
         err: err.bytes().to_vec(alloc)?,
@@ -115,7 +117,15 @@ fn worked_examples(rt: HostRuntime) -> Result<(), Fail> {
     }
     let small = "%%MatrixMarket matrix array integer general\n2 1\n127\n1\n";
     let came = ran::<Int<7>>(rt.alloc(), &["run", "s"], &World::of(SCRIPT, small))?;
-    assert_eq!(rt; came.code, 9);
+    let wide = Int::<47>::of(128).ok_or("in range")?.wide();
+    let fault = OpFault {
+        op: 0,
+        row: 1,
+        col: 1,
+        what: What::Range { value: wide },
+    };
+    let place = Place { line: 2, col: 7 };
+    assert_eq!(rt; came.status, Status::Operator { place, fault });
     assert_eq!(rt;
         came.err.as_slice(),
         b"operator 2:7: entry (1, 1) is 128\n".as_slice()
@@ -137,8 +147,9 @@ fn words(rt: HostRuntime) -> Result<(), Fail> {
     ];
     for words in refused {
         let came = ran::<Int<47>>(rt.alloc(), words, &world)?;
-        assert_eq!(rt; came.code, 2, "at {words:?}");
-        assert!(rt; came.out.is_empty() && came.err.is_empty());
+        assert_eq!(rt; came.status, Status::Usage, "at {words:?}");
+        assert!(rt; came.out.is_empty());
+        assert_eq!(rt; came.err.as_slice(), b"usage: cla COMMAND WORDS\n".as_slice());
     }
     Ok(())
 }
@@ -166,7 +177,35 @@ fn hostile_scripts(rt: HostRuntime) -> Result<(), Fail> {
         let came = ran::<Int<47>>(rt.alloc(), &["run", "s"], &World::of(script, SQUARE))?;
         assert_eq!(rt; came.code, status, "at {script}");
         assert_eq!(rt; came.out.is_empty(), status != 0, "at {script}");
-        assert!(rt; came.err.is_empty(), "at {script}");
+        let line = match status {
+            0 => "",
+            3 => "missing file y.mtx\n",
+            _ => "script 1:1: Syntax\n",
+        };
+        assert_eq!(rt; came.err.as_slice(), line.as_bytes(), "at {script}");
+    }
+    Ok(())
+}
+
+#[test]
+fn long_scripts(rt: HostRuntime) -> Result<(), Fail> {
+    let syntax = Status::BadScript {
+        place: Place { line: 1, col: 1 },
+        kind: BadKind::Script(ScriptKind::Syntax),
+    };
+    for (len, status, line) in [
+        (1 << 20, syntax, "script 1:1: Syntax\n"),
+        (
+            (1 << 20) + 1,
+            Status::Limit,
+            "limit s: more than 1048576 bytes\n",
+        ),
+    ] {
+        let script = String::from_utf8(Vec::from_elem(rt.alloc(), b'x', len)?)?;
+        let came = ran::<Int<47>>(rt.alloc(), &["run", "s"], &World::of(&script, SQUARE))?;
+        assert_eq!(rt; came.status, status, "at {len}");
+        assert!(rt; came.out.is_empty(), "at {len}");
+        assert_eq!(rt; came.err.as_slice(), line.as_bytes(), "at {len}");
     }
     Ok(())
 }
@@ -260,7 +299,8 @@ fn refused_factors(rt: HostRuntime) -> Result<(), Fail> {
         let script = product_script(rt.alloc(), factor)?;
         let came = ran::<Int<47>>(rt.alloc(), &["run", "s"], &World::of(&script, SQUARE))?;
         assert_eq!(rt; came.code, 6, "at {factor}");
-        assert!(rt; came.out.is_empty() && came.err.is_empty(), "at {factor}");
+        assert!(rt; came.out.is_empty(), "at {factor}");
+        assert_eq!(rt; came.err.as_slice(), b"script 1:1: Syntax\n".as_slice(), "at {factor}");
     }
     let script = product_script(rt.alloc(), "X * 128")?;
     let came = ran::<Int<7>>(rt.alloc(), &["run", "s"], &World::of(&script, SQUARE))?;
@@ -308,7 +348,7 @@ fn hostile_tables(rt: HostRuntime) -> Result<(), Fail> {
 }
 
 #[test]
-fn missing_files_and_failing_calls(rt: HostRuntime) -> Result<(), Fail> {
+fn missing_files(rt: HostRuntime) -> Result<(), Fail> {
     let none = World {
         script: None,
         table: Some(SQUARE),
@@ -316,32 +356,59 @@ fn missing_files_and_failing_calls(rt: HostRuntime) -> Result<(), Fail> {
         failing_write: None,
         failing_line: None,
     };
-    assert_eq!(rt; ran::<Int<47>>(rt.alloc(), &["run", "s"], &none)?.code, 3);
-    // A run opens both files, reads each in one call and meets its end in two more, and writes once.
-    for (kind, n, status) in [
-        (CallKind::BeginRead, 1, 4),
-        (CallKind::BeginRead, 2, 4),
-        (CallKind::BeginRead, 3, 0),
-        (CallKind::Read, 1, 4),
-        (CallKind::Read, 2, 4),
-        (CallKind::Read, 3, 4),
-        (CallKind::Read, 4, 4),
-        (CallKind::Read, 5, 4),
-        (CallKind::Read, 6, 4),
-        (CallKind::Read, 7, 0),
-    ] {
-        let mut world = World::of(SCRIPT, SQUARE);
-        world.failing = Some((kind, n));
-        let came = ran::<Int<47>>(rt.alloc(), &["run", "s"], &world)?;
-        assert_eq!(rt; came.code, status, "at {kind:?} {n}");
-        assert_eq!(rt; came.out.is_empty(), status != 0, "at {kind:?} {n}");
+    let came = ran::<Int<47>>(rt.alloc(), &["run", "s"], &none)?;
+    assert_eq!(rt; came.status, Status::Missing);
+    assert_eq!(rt; came.err.as_slice(), b"missing file s\n".as_slice());
+    Ok(())
+}
+
+// Each reading call fails in turn, until the run makes no such call any more: first those on the
+// script, and then those on the table.
+#[test]
+fn failing_reads(rt: HostRuntime) -> Result<(), Fail> {
+    for kind in [CallKind::BeginRead, CallKind::Read] {
+        let mut script_failed = false;
+        let mut table_failed = false;
+        let mut done = false;
+        for n in 1..=64 {
+            let mut world = World::of(SCRIPT, SQUARE);
+            world.failing = Some((kind, n));
+            let came = ran::<Int<47>>(rt.alloc(), &["run", "s"], &world)?;
+            if came.status == Status::Done {
+                done = true;
+                break;
+            }
+            assert_eq!(rt; came.status, Status::ReadFault, "at {kind:?} {n}");
+            assert!(rt; came.out.is_empty(), "at {kind:?} {n}");
+            if came.err.as_slice() == b"cannot read s\n".as_slice() {
+                assert!(rt; !table_failed, "at {kind:?} {n}");
+                script_failed = true;
+            } else {
+                assert_eq!(rt;
+                    came.err.as_slice(),
+                    b"cannot read x.mtx\n".as_slice(),
+                    "at {kind:?} {n}"
+                );
+                table_failed = true;
+            }
+        }
+        assert!(rt; done && script_failed && table_failed, "at {kind:?}");
     }
-    for (n, status) in [(1, 5), (2, 0)] {
+    Ok(())
+}
+
+#[test]
+fn failing_writes(rt: HostRuntime) -> Result<(), Fail> {
+    for (n, status, line) in [
+        (1, Status::WriteFault, "cannot write output\n"),
+        (2, Status::Done, ""),
+    ] {
         let mut world = World::of(SCRIPT, SQUARE);
         world.failing_write = Some(n);
         let came = ran::<Int<47>>(rt.alloc(), &["run", "s"], &world)?;
-        assert_eq!(rt; came.code, status, "at write {n}");
-        assert_eq!(rt; came.out.is_empty(), status != 0, "at write {n}");
+        assert_eq!(rt; came.status, status, "at write {n}");
+        assert_eq!(rt; came.out.is_empty(), n == 1, "at write {n}");
+        assert_eq!(rt; came.err.as_slice(), line.as_bytes(), "at write {n}");
     }
     Ok(())
 }

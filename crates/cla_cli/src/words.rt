@@ -1,12 +1,12 @@
 //! The words of the command line.
 
-ghost use Rattle.std.specs.Prelude.{◌≡◌, map, string_bytes};
+ghost use Rattle.std.specs.Prelude.{◌≡◌, ℕ, map, string_bytes};
 ghost use Rattle.std.specs.Option.{option_map};
-ghost use Rattle.cla_cli.specs.Words.{accepted_command, is_place};
+ghost use Rattle.cla_cli.specs.Words.{RunScript, accepted_command, is_place};
 
 /// The script of the words `run SCRIPT`. All other words are no command.
 pub(crate) fn accepted(words: &[String]) -> Option<&str>
-    ensures { option_map (λ script. script.now) result ≡ accepted_command (map string_bytes words.now) }
+    ensures { (bits : ℕ) → option_map (λ script. RunScript script.now) result ≡ accepted_command bits (map string_bytes words.now) }
 {
     match words {
         [command, script] => {

@@ -9,7 +9,7 @@ use Rattle.memchr.specs.Find.{IsFirstByte, is_byte}
 use Rattle.cla_spec.specs.Lines.{is_lf, without_cr, first_line, after_line}
 use Rattle.cla_io.specs.declared.stop.InFault.{InFault}
 use Rattle.cla_io.specs.declared.stop.InFault.TheVariants.{Read, TooLong, Memory}
-use Rattle.cla_io.specs.Lines.{Progress, IsLfPlace, EndsAt, TakesLine, TakesLineWhereTold, SameContent, IsAllRead, IsOther, OnlyTooLong, InCause, ahead_of, line_width}
+use Rattle.cla_io.specs.Lines.{Progress, IsLfPlace, EndsAt, TakesLine, TakesLineWhereTold, SameContent, IsAllRead, IsOther, ahead_of, line_width}
 use Rattle.cla_spec.specs.Files.{Told}
 use Rattle.cla_io.specs.State.{Reading, left_where_told}
 
@@ -140,9 +140,3 @@ takes_none old new None told' reading reading' fault same h = rw same refl
 takes_none old new (Some t) told' reading reading' TooLong same h = absurd h
 takes_none old new (Some t) told' reading reading' Read same h = rw same tt
 takes_none old new (Some t) told' reading reading' Memory same h = rw same tt
-
-pub no_cause : (before now : ℕ) (result : Result Bool InFault) → OnlyTooLong result → InCause before now result
-no_cause before now (Ok more) h = tt
-no_cause before now (Err TooLong) h = tt
-no_cause before now (Err Read) h = absurd h
-no_cause before now (Err Memory) h = absurd h

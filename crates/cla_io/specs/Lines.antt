@@ -1,6 +1,8 @@
 -- Input line by line: what was taken of a file, and what stands ahead.
 use Rattle.std.specs.Prelude.{◌≡◌, ℕ, ◌+◌, ◌-◌, ◌<◌, ◌≤◌, ◌^◌, List, [], ◌++◌, take, drop, length, Option, Some, None, Bool, true, false, Result, Ok, Err, if◌then◌else◌}
 use Rattle.std.specs.List.{position_or_len}
+use Rattle.std.specs.declared.vec.Vec.{Vec}
+use Rattle.std.specs.declared.alloc.Global.{Global}
 use Rattle.cla_spec.specs.Lines.{is_lf, without_cr, first_line, after_line}
 use Rattle.cla_io.specs.declared.stop.InFault.{InFault}
 use Rattle.cla_io.specs.declared.stop.InFault.TheVariants.{Read, TooLong, Memory}
@@ -43,18 +45,43 @@ TakesLineWhereTold old new None after result = after ≡ None
 TakesLineWhereTold old new (Some bytes) None result = ⊥
 TakesLineWhereTold old new (Some bytes) (Some after) result = TakesLine old new bytes after result
 
--- how next_line counts
+-- nothing was taken: only the bytes that are held changed
+pub record OnlyHolds (old new : Progress) : Type 0 where
+  pub at : new.at ≡ old.at
+  pub limit : new.limit ≡ old.limit
+  pub line : new.line ≡ old.line
+  pub lines : new.lines ≡ old.lines
+  pub ended : new.ended ≡ old.ended
+
+-- how next_line counts; the line that was taken last stands at the end of the file, and an error takes nothing
 abbrev pub CountsLine : Progress → Progress → Result Bool InFault → Type 0
 CountsLine old new (Ok true) = (new.lines ≡ old.lines + 1) × (new.ended ≡ false)
-CountsLine old new (Ok false) = (new.lines ≡ old.lines) × (new.ended ≡ true)
-CountsLine old new (Err e) = Unit {0}
+CountsLine old new (Ok false) = (new.lines ≡ old.lines) × (new.ended ≡ true) × (new.line ≡ old.line)
+CountsLine old new (Err e) = OnlyHolds old new
 
--- Read comes only where a count rose
+-- what whole does to the bytes ahead: all of them are taken as they are, or one past the limit is among them
+abbrev pub TakesWhole : Progress → Progress → List ℕ → List ℕ → Result (Vec ℕ Global) InFault → Type 0
+TakesWhole old new bytes after (Ok taken) = (taken.items ≡ bytes) × (after ≡ [])
+TakesWhole old new bytes after (Err TooLong) = new.limit < length bytes
+TakesWhole old new bytes after (Err Read) = Unit {0}
+TakesWhole old new bytes after (Err Memory) = Unit {0}
+
+abbrev pub TakesWholeWhereTold : Progress → Progress → Option (List ℕ) → Option (List ℕ) → Result (Vec ℕ Global) InFault → Type 0
+TakesWholeWhereTold old new None after result = after ≡ None
+TakesWholeWhereTold old new (Some bytes) None result = ⊥
+TakesWholeWhereTold old new (Some bytes) (Some after) result = TakesWhole old new bytes after result
+
+-- where whole stands afterwards: behind all bytes, within the limit; an error takes nothing
+abbrev pub CountsWhole : Progress → Progress → Result (Vec ℕ Global) InFault → Type 0
+CountsWhole old new (Ok taken) = (new.at ≡ length taken.items) × (new.at ≤ new.limit)
+CountsWhole old new (Err e) = OnlyHolds old new
+
+-- Read comes only where a count of faults rose, and the count stays with every other answer
 abbrev pub InCause : {T : Type 0} → ℕ → ℕ → Result T InFault → Type 0
 InCause before now (Err Read) = Rose before now
-InCause before now (Err TooLong) = Unit {0}
-InCause before now (Err Memory) = Unit {0}
-InCause before now (Ok x) = Unit {0}
+InCause before now (Err TooLong) = now ≡ before
+InCause before now (Err Memory) = now ≡ before
+InCause before now (Ok x) = now ≡ before
 
 -- where the next LF stands among these bytes, if there is one
 abbrev pub IsLfPlace : List ℕ → Option ℕ → Type 0
@@ -68,14 +95,6 @@ pub record IsInOrder (held : List ℕ) (limit at line_start line_end lines : ℕ
   pub line : line_start ≤ line_end
   pub line_held : line_end ≤ length held
   pub counted : lines ≤ at
-
--- only the bytes that are held changed
-pub record OnlyHolds (old new : Progress) : Type 0 where
-  pub at : new.at ≡ old.at
-  pub limit : new.limit ≡ old.limit
-  pub line : new.line ≡ old.line
-  pub lines : new.lines ≡ old.lines
-  pub ended : new.ended ≡ old.ended
 
 -- the bytes of the file stay the same, those that are held and those that are left to read together
 abbrev pub SameContent : Progress → Progress → Option (List ℕ) → Option (List ℕ) → Type 0

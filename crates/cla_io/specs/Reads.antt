@@ -24,9 +24,9 @@ IsAbsent (Some told) name = fin.get told name ≡ None
 
 -- what begin_read answers
 abbrev pub BeginsRead : List ℕ → State → State → Result Bool Stop → Type 0
-BeginsRead name old new (Ok true) = (new.reading ≡ Some (record { name = name; place = 0 })) × IsPresent old.told name
+BeginsRead name old new (Ok true) = (new.reading ≡ Some (record { name = name; place = 0 })) × IsPresent old.told name × (new.misses ≡ old.misses)
 BeginsRead name old new (Ok false) = (new.reading ≡ None) × Rose old.misses new.misses × IsAbsent old.told name
-BeginsRead name old new (Err e) = new.reading ≡ None
+BeginsRead name old new (Err e) = (new.reading ≡ None) × (new.misses ≡ old.misses)
 
 -- n more bytes of a file were taken; an untold place stands still at a counter's last number
 abbrev pub moved : Option Told → Reading → ℕ → Reading

@@ -3,7 +3,7 @@
 ghost use Rattle.std.specs.Prelude.{◌≡◌, ◌<◌, ◌≤◌, ◌^◌, [], false, length, IsSome, IsOk, IfOk, OnOk};
 ghost use Rattle.std.specs.Bool.{OnTrue};
 ghost use Rattle.cla_io.specs.State.{left};
-ghost use Rattle.cla_io.specs.Lines.{TakesLineWhereTold, CountsLine, InCause, OnlyHolds, SameContent, IsAllRead, IsNotTooLong, ahead_of, line_number_of};
+ghost use Rattle.cla_io.specs.Lines.{TakesLineWhereTold, CountsLine, TakesWholeWhereTold, CountsWhole, InCause, OnlyHolds, SameContent, IsAllRead, IsNotTooLong, ahead_of, line_number_of};
 ghost use Rattle.cla_io.specs.InputFrame.{ReadsOn, IsAtStart};
 
 use crate::files::Files;
@@ -34,7 +34,8 @@ impl<F: Files, B: Drop> Drop for InputOver<'_, F, B> {
 
 impl<'a, F: Files> InputOver<'a, F, Taken> {
     /// The input of the file that is being read, from its first byte. At most `limit` bytes are
-    /// taken of it, from 8 to 2^32. It takes no memory yet, and so succeeds.
+    /// taken of it, from 8 to 2^32. It takes no memory yet, and so succeeds; a caller would know
+    /// nothing of its files after an error.
     pub fn new(alloc: Global, files: &'a mut F, limit: u64) -> Result<Input<'a, F>, Memory>
         requires start { IsAtStart (F.state files.old).reading }
         requires least { 8 ≤ limit }
@@ -51,7 +52,8 @@ impl<'a, F: Files> InputOver<'a, F, Taken> {
     }
 
     /// Takes the next line. `false` says that the file ends here. `TooLong` comes exactly where the
-    /// line reaches past the limit, and `Read` only where faults of reading rose.
+    /// line reaches past the limit, and `Read` only where faults of reading rose. An error takes
+    /// nothing.
     pub fn next_line(&mut self) -> Result<bool, InFault>
         ensures same_reference { self.new.files.ghost_name ≡ self.old.files.ghost_name }
         ensures frame { ReadsOn (F.state self.old.files.now) (F.state self.new.files.now) }
@@ -71,6 +73,23 @@ impl<'a, F: Files> InputOver<'a, F, Taken> {
         }
         let lf = self.taken.lf_ahead();
         self.taken.take_line(lf)
+    }
+
+    /// Takes all bytes of the file, as they are. `TooLong` comes exactly where a byte past the limit
+    /// is there, and `Read` only where faults of reading rose. An error takes nothing.
+    pub fn whole(&mut self) -> Result<Vec<u8>, InFault>
+        requires { self.old.taken.at ≡ 0 }
+        ensures same_reference { self.new.files.ghost_name ≡ self.old.files.ghost_name }
+        ensures frame { ReadsOn (F.state self.old.files.now) (F.state self.new.files.now) }
+        ensures cause { InCause (F.state self.old.files.now).read_faults (F.state self.new.files.now).read_faults result }
+        ensures limit { self.new.taken.limit ≡ self.old.taken.limit }
+        ensures whole { TakesWholeWhereTold self.old.taken self.new.taken (ahead_of self.old.taken (left (F.state self.old.files.now))) (ahead_of self.new.taken (left (F.state self.new.files.now))) result }
+        ensures count { CountsWhole self.old.taken self.new.taken result }
+    {
+        match load(self.files, &mut self.taken) {
+            Ok(()) => self.taken.take_all(),
+            Err(fault) => Err(fault),
+        }
     }
 
     /// The line that was taken last, without its end.

@@ -1,8 +1,8 @@
 //! What an input holds of its file, and what was taken of it.
 
-ghost use Rattle.std.specs.Prelude.{◌≡◌, ◌≤◌, ◌++◌, ◌↔◌, ◌^◌, [], length, drop, take, false, IsTrue, OnOk, OnErr};
+ghost use Rattle.std.specs.Prelude.{◌≡◌, ◌<◌, ◌≤◌, ◌++◌, ◌↔◌, ◌^◌, [], length, drop, take, false, Err, IsTrue, IfOk, OnOk, OnErr};
 ghost use Rattle.cla_spec.specs.Lines.{without_cr};
-ghost use Rattle.cla_io.specs.Lines.{TakesLine, CountsLine, OnlyTooLong, IsLfPlace, EndsAt, line_number_of};
+ghost use Rattle.cla_io.specs.Lines.{TakesLine, CountsLine, CountsWhole, OnlyHolds, OnlyTooLong, IsLfPlace, EndsAt, line_number_of};
 
 use crate::stop::InFault;
 use cla_num::Memory;
@@ -86,6 +86,26 @@ impl Taken {
     {
         self.bytes.extend_from_slice(piece)?;
         Ok(())
+    }
+
+    // Takes all bytes that are held.
+    pub(crate) fn take_all(&mut self) -> Result<Vec<u8>, InFault>
+        requires { self.old.at ≡ 0 }
+        ensures held { self.new.held ≡ self.old.held }
+        ensures limit { self.new.limit ≡ self.old.limit }
+        ensures all { IfOk result (λ taken. taken.items ≡ self.old.held) }
+        ensures count { CountsWhole self.old self.new result }
+        ensures past_limit { result ≡ Err InFault.TooLong → self.new.limit < length self.new.held }
+        ensures not_read { result ≡ Err InFault.Read → ⊥ }
+    {
+        if self.limit < self.bytes.len() as u64 {
+            return Err(InFault::TooLong);
+        }
+        let Ok(bytes) = Vec::from_slice(*self.bytes.allocator(), &self.bytes) else {
+            return Err(InFault::Memory);
+        };
+        self.at = self.bytes.len();
+        Ok(bytes)
     }
 
     // How far ahead the next LF stands among the bytes that are held, if there is one.

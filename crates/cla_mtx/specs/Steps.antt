@@ -15,9 +15,9 @@ Refuses Memory P = Unit {0}
 abbrev pub StepWhereTold : {T : Type 0} → (io.Lines → io.Lines → T → Type 0) → (io.Lines → Type 0) → Progress → Progress → Option (List ℕ) → Option (List ℕ) → Result T MtxFault → Type 0
 StepWhereTold Good Bad old new before after result = io.StepWhereTold Refuses Good Bad old new before after result
 
--- Read comes only where a count rose
+-- Read comes only where a count of faults rose, and the count stays with every other answer
 abbrev pub HasReadCause : {T : Type 0} → ℕ → ℕ → Result T MtxFault → Type 0
-HasReadCause before now (Ok x) = Unit {0}
+HasReadCause before now (Ok x) = now ≡ before
 HasReadCause before now (Err Read) = Rose before now
-HasReadCause before now (Err (Banner n)) = Unit {0}
-HasReadCause before now (Err Memory) = Unit {0}
+HasReadCause before now (Err (Banner n)) = now ≡ before
+HasReadCause before now (Err Memory) = now ≡ before

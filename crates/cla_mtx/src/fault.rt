@@ -3,7 +3,7 @@
 use thiserror::Error;
 
 /// A file that isn't read: it isn't of the form, it can't be read, or memory is wanting.
-#[derive(Debug, Drop, Error)]
+#[derive(Clone, Copy, Debug, PartialEq, Eq, Error)]
 pub enum MtxFault {
     #[error("the file isn't an array file")]
     Banner { line: u64 },

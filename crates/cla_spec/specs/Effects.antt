@@ -36,3 +36,8 @@ IsInPart (File name bytes) w v = (n : ℕ) × (v ≡ record w { told = fin.inser
 abbrev pub IsFront : List Effect → World → World → Type 0
 IsFront [] w v = v ≡ w
 IsFront (e ∷ es) w v = (v ≡ w) ⊎ (IsInPart e w v ⊎ IsFront es (applied_one e w) v)
+
+-- some whole effects from the start, before this next one, which may stand in part
+abbrev pub IsFrontBefore : List Effect → Effect → World → World → Type 0
+IsFrontBefore [] next w v = ⊥
+IsFrontBefore (e ∷ es) next w v = ((e ≡ next) × ((v ≡ w) ⊎ IsInPart e w v)) ⊎ IsFrontBefore es next (applied_one e w) v

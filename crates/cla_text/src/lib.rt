@@ -1,8 +1,10 @@
-//! Integers in words.
+//! Integers in words, and texts that grow.
 #![tactic(auto)]
 
 mod integer;
 #[cfg(test)]
 mod tests;
+mod text;
 
 pub use integer::{BadInt, read_int};
+pub use text::Text;

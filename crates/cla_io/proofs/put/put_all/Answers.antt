@@ -13,4 +13,6 @@ loop-done-preserved g c =
       later = omega (arith, wrote.later);
       steady = wrote.steady ∙ before.steady;
       kept = g.met.O.Sink.kept_on _ _ _ before.kept wrote.kept;
+      no_fault = wrote.cause ∙ before.no_fault;
+      empty = λ none. absurd (omega (arith, none));
     }

@@ -10,6 +10,8 @@ invariant-loop-done g l = record {
   later : g.O.Sink.faults l.fn.out ≤ g.O.Sink.faults l.out;
   steady : g.O.Sink.steady l.out ≡ g.O.Sink.steady l.fn.out;
   kept : g.O.Sink.kept l.fn.out l.out;
+  no_fault : g.O.Sink.faults l.out ≡ g.O.Sink.faults l.fn.out;
+  empty : length l.piece ≡ 0 → l.out ≡ l.fn.out;
 }
 
 abbrev pub decreases-loop-done : goal.decreases-loop-done

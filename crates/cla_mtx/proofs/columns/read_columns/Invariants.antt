@@ -10,6 +10,7 @@ abbrev pub invariant-loop-input : goal.invariant-loop-input
 invariant-loop-input g l = record {
   same_reference : l.input.files.ghost_name ≡ l.fn.input.files.ghost_name;
   frame : ReadsOn (g.F.Files.state l.fn.input.files.now) (g.F.Files.state l.input.files.now);
+  no_fault : (g.F.Files.state l.input.files.now).read_faults ≡ (g.F.Files.state l.fn.input.files.now).read_faults;
   limit : l.input.taken.limit ≡ l.fn.input.taken.limit;
   few : length l.values.items ≤ l.count;
   step : StepWhereTold (TakesEntries g.N.Number.value) (NeverEntries g.N.Number.BITS l.count) l.fn.input.taken l.input.taken

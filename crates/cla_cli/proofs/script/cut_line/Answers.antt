@@ -1,0 +1,10 @@
+use Rattle.std.proofs.Common.{◌≡◌, ℕ, ◌+◌, List, drop, ap, sym, ◌∙◌}
+use Rattle.std.proofs.lemmas.List.{drop-drop}
+use Rattle.cla_spec.specs.Lines.{after_line}
+use Rattle.cla_cli.proofs.script.cut_line.Goals as goal
+
+pub returns-clause-rest : goal.returns-clause-rest
+unfolding after_line
+returns-clause-rest c =
+    c.behind_first.ensures ∙ ap (λ (l : List ℕ). drop 1 l) c.split_at.ensures.back ∙ drop-drop 1 c.line_len.result c.args.text.now
+    ∙ ap (λ (k : ℕ). drop (k + 1) c.args.text.now) c.line_len.ensures.place
