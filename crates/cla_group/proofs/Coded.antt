@@ -14,30 +14,12 @@ tuples_few width n codes values are = used_few codes n are.used
 pub codes_few : (width n : ℕ) (codes : List ℕ) (values : ℕ) → AreCodes width n codes values → length codes ≤ most_cells
 codes_few width n codes values are = omega (arith, are.few_cells, mul-le-mul_left {m = 1} {n = width} (length codes) are.a_column)
 
-pub columns_few : (width n : ℕ) (codes : List ℕ) (values : ℕ) → AreCodes width n codes values → width ≤ most_cells
-columns_few width n codes values are = omega (arith, are.few_cells, mul-le-mul_right {m = 1} {n = length codes} width are.a_row)
-
--- the same codes, with as many columns or fewer
-pub codes_with : (width width' n : ℕ) (codes : List ℕ) (values values' : ℕ) → AreCodes width n codes values → 1 ≤ width' → width' ≤ width → values' ≡ n * width' → AreCodes width' n codes values'
-codes_with width width' n codes values values' are a_column narrow whole = record {
-  a_row = are.a_row;
-  a_column = a_column;
-  few_cells = omega (arith, are.few_cells, mul-le-mul_left {m = width'} {n = width} (length codes) narrow);
-  whole = whole;
-  in_tuples = are.in_tuples;
-  used = are.used;
-}
-
 -- the codes of some rows
 pub rows_between : (a b : ℕ) (codes : List ℕ) → b ≤ length codes → length (take (b - a) (drop a codes)) ≡ b - a
 rows_between a b codes within = length-take-le (b - a) (drop a codes) (omega (arith, within, length-drop a codes))
 
 pub row_between : (a b : ℕ) (codes : List ℕ) (i : ℕ) → i < b - a → code_of (take (b - a) (drop a codes)) i ≡ code_of codes (a + i)
 row_between a b codes i row = get_or-take (b - a) (drop a codes) i 0 row ∙ get_or-drop a codes i 0
-
--- fewer rows have few cells too
-pub cells_between : (width n a b : ℕ) (codes : List ℕ) (values : ℕ) → AreCodes width n codes values → b ≤ length codes → (b - a) * width ≤ most_cells
-cells_between width n a b codes values are within = omega (arith, are.few_cells, mul-le-mul_right {m = b - a} {n = length codes} width (omega (arith, within)))
 
 -- a value that is read is that of the dictionary
 pub value_read : {N : Type 0} (value : N → ℤ) (width n : ℕ) (values : List N) (k c : ℕ) (x : N) → length values ≡ n * width → k < n → c < width → x ≡ get_or values (k * width + c) x → value x ≡ value_of (tuples_of width n (map value values)) k c

@@ -14,16 +14,6 @@ pub record AreCountedFrom (i : ℕ) (codes : List ℕ) (tuples : ℕ) (counts fi
   pub count : (k : ℕ) → k < tuples → code_of counts k ≡ occurrences_of (drop i codes) k
   pub first_row : (k : ℕ) → k < tuples → code_of first_rows k ≡ i + first_row_of (drop i codes) k
 
-pub counted_none : (codes : List ℕ) (tuples : ℕ) → AreCountedFrom (length codes) codes tuples (replicate tuples 0) (replicate tuples (length codes))
-counted_none codes tuples =
-    let none = drop_all (length codes) codes (omega arith) in
-    record {
-      a_count_each = length-replicate tuples 0;
-      a_row_each = length-replicate tuples (length codes);
-      count = λ k there. rw none (get_or-replicate tuples k 0 0 there);
-      first_row = λ k there. rw none (omega (arith, get_or-replicate tuples k (length codes) 0 there));
-    }
-
 -- 1 where a code is this one
 abbrev one_if : ℕ → ℕ → ℕ
 one_if k code = cond (eqb code k) 1 0

@@ -10,10 +10,6 @@ pub mod Counts
 pub mod Coded
 pub mod Listings
 pub mod Rests
-pub mod RunRows
-pub mod RunsMade
-pub mod RunWalks
-pub mod RunCodes
 pub mod Dictionaries
 pub mod GroupsMade
 pub mod Ranks

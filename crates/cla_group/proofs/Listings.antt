@@ -10,7 +10,7 @@ use Rattle.std.proofs.lemmas.List.Sums.{count_by_more_yes, count_by_more_no, pos
 use Rattle.cla_spec.specs.Numbers.{sum_to}
 use Rattle.cla_spec.proofs.Sums.{plus_zero, sum_to-same}
 use Rattle.cla_group.specs.Groups.{at, code_of, occurrences_of, first_row_of, gathered}
-use Rattle.cla_group.specs.Listed.{is_rest, rows_where, rows_of, rest_or, code_listed, codes_listed}
+use Rattle.cla_group.specs.Listed.{rows_where, rows_of}
 use Rattle.cla_group.proofs.Regroup.{first_row_there, code_of_first_row}
 
 -- one more row
@@ -104,16 +104,6 @@ rows_where_few test (suc n) =
       | inr fails ↦ omega (arith, ap (λ (xs : List ℕ). length xs) (rows_where_no test n fails), rows_where_few test n)
     ])
 
--- tests that agree list the same rows
-pub rows_where_same : (test other : ℕ → Bool) (n : ℕ) → ((i : ℕ) → i < n → test i ≡ other i) → rows_where test n ≡ rows_where other n
-rows_where_same test other zero same = refl
-rows_where_same test other (suc n) same =
-    let next : suc n ≡ n + 1 = omega arith in
-    ap (rows_where test) next ∙ rows_where_more test n
-    ∙ ap (λ (xs : List ℕ). xs ++ cond (test n) (n ∷ []) []) (rows_where_same test other n (λ i row. same i (omega (arith, row))))
-    ∙ ap (λ (b : Bool). rows_where other n ++ cond b (n ∷ []) []) (same n (omega arith))
-    ∙ sym (rows_where_more other n) ∙ ap (rows_where other) (sym next)
-
 pub rows_where_none : (test : ℕ → Bool) (n : ℕ) → ((i : ℕ) → i < n → test i ≡ false) → rows_where test n ≡ []
 rows_where_none test zero fails = refl
 rows_where_none test (suc n) fails =
@@ -174,16 +164,6 @@ rows_count_to codes k (suc n) within =
 pub rows_of_count : (codes : List ℕ) (k : ℕ) → length (rows_of codes k) ≡ occurrences_of codes k
 rows_of_count codes k = rows_count_to codes k (length codes) (omega arith) ∙ ap (λ (cs : List ℕ). count_by (λ code. eqb code k) cs) (take_all (length codes) codes (omega arith))
 
--- the first of them is the first row
-pub rows_of_first : (codes : List ℕ) (k : ℕ) → 0 < occurrences_of codes k → code_of (rows_of codes k) 0 ≡ first_row_of codes k
-rows_of_first codes k some =
-    let first = first_row_of codes k in
-    let test = λ (i : ℕ). eqb (code_of codes i) k in
-    let place = row_place test (length codes) first (first_row_there codes k some) (eq-eqb _ _ (code_of_first_row codes k some)) in
-    let none : rows_where test first ≡ [] = rows_where_none test first (λ i before. fails_before_first (λ code. eqb code k) codes i 0 before) in
-    let zeroth : length (rows_where test first) ≡ 0 = ap (λ (xs : List ℕ). length xs) none in
-    ap (code_of (rows_of codes k)) (sym zeroth) ∙ place.1
-
 -- what some rows add up to
 abbrev pub sum_over : (ℕ → ℤ) → List ℕ → ℤ
 sum_over f rows = sum_to (λ a. f (code_of rows a)) (length rows)
@@ -211,50 +191,4 @@ sum_where f test (suc n) =
           ∙ ap (λ (b : Bool). sum_to (λ i. cond (test i) (f i) (pos 0)) n +ℤ cond b (f n) (pos 0)) (sym fails)
     ]
 
--- what the rows of a code add up to
-pub rows_of_gathered : (codes : List ℕ) (items : List ℤ) (k : ℕ) → sum_over (at items) (rows_of codes k) ≡ gathered codes items k
-rows_of_gathered codes items k = sum_where (at items) (λ i. eqb (code_of codes i) k) (length codes)
 
--- codes are those of the rows that are listed by them, if all but the rest are
-rest_is : (tuples : ℕ) (rest : Option ℕ) (k : ℕ) → is_rest rest k ≡ true → rest_or tuples rest ≡ k
-rest_is tuples None k is = absurd (both_ways false refl is)
-rest_is tuples (Some r) k is = sym (eqb-true k r is)
-
-code_listed_is : (has : ℕ → ℕ → Bool) (tuples : ℕ) (rest : Option ℕ) (i code : ℕ) → code < tuples → ((k : ℕ) → k < tuples → has k i ≡ (eqb code k && not (is_rest rest k))) → code_listed has tuples rest i ≡ code
-code_listed_is has tuples rest i code below is =
-    let all = range_with_len 0 tuples in
-    let count : length all ≡ tuples = length-range_with_len 0 tuples in
-    let here : (k : ℕ) → k < tuples → code_of all k ≡ k = λ k there. omega (arith, get_or-range_with_len 0 tuples k 0 there) in
-    let test = λ (k : ℕ). has k i in
-    elim (cases_Bool (is_rest rest code)) [
-      | inl in_rest ↦
-          let place : position_or_len test all ≡ tuples =
-          position_or_len_is test all tuples 0 (omega (arith, count))
-          (λ k there. ap test (here k there) ∙ is k there ∙ elim (cases_eq code k) [
-            | inl same ↦ and_right (eqb code k) (not (is_rest rest k)) (ap not (ap (is_rest rest) (sym same) ∙ in_rest))
-            | inr other ↦ and_left (eqb code k) (not (is_rest rest k)) (ne_eqb code k other)
-          ])
-          (λ there. absurd (omega (arith, there, count))) in
-          ap (λ (k : ℕ). cond (ltb k tuples) k (rest_or tuples rest)) place
-          ∙ ap (λ (b : Bool). cond b tuples (rest_or tuples rest)) (le-ltb tuples tuples (omega arith))
-          ∙ rest_is tuples rest code in_rest
-      | inr listed ↦
-          let place : position_or_len test all ≡ code =
-          position_or_len_is test all code 0 (omega (arith, count, below))
-          (λ k before. (let there : k < tuples = omega (arith, before, below) in
-          ap test (here k there) ∙ is k there ∙ and_left (eqb code k) (not (is_rest rest k)) (ne_eqb code k (λ same. absurd (omega (arith, same, before))))))
-          (λ _. ap test (here code below) ∙ is code below ∙ and_from (eqb code code) (not (is_rest rest code)) (eq-eqb code code refl) (ap not listed)) in
-          ap (λ (k : ℕ). cond (ltb k tuples) k (rest_or tuples rest)) place
-          ∙ ap (λ (b : Bool). cond b code (rest_or tuples rest)) (lt-ltb code tuples below)
-    ]
-
-pub codes_listed_is : (has : ℕ → ℕ → Bool) (tuples : ℕ) (rest : Option ℕ) (codes : List ℕ) → ((i k : ℕ) → i < length codes → k < tuples → has k i ≡ (eqb (code_of codes i) k && not (is_rest rest k))) →
-    ((i : ℕ) → i < length codes → code_of codes i < tuples) → codes_listed has (length codes) tuples rest ≡ codes
-codes_listed_is has tuples rest codes is below =
-    let rows = length codes in
-    let count : length (codes_listed has rows tuples rest) ≡ rows = length-map-range_with_len (code_listed has tuples rest) 0 rows in
-    ext_get_or 0 (codes_listed has rows tuples rest) codes count
-    (λ i there.
-    (let row : i < rows = omega (arith, there, count) in
-    get_or-map-range_with_len (code_listed has tuples rest) 0 rows i i 0 row (omega arith)
-    ∙ code_listed_is has tuples rest i (code_of codes i) (below i row) (λ k k_there. is i k row k_there)))

@@ -25,23 +25,6 @@ elsewhere code k other = ap (λ (b : Bool). cond b 1 0) (ne_eqb code k other)
 pub occurrences_push : (codes : List ℕ) (code k : ℕ) → occurrences_of (codes ++ code ∷ []) k ≡ occurrences_of codes k + one_if k code
 occurrences_push codes code k = sum_by_push (one_if k) codes code
 
--- no code has a name at first
-unnamed : (n none : ℕ) → occurrences_of (replicate n none) none ≡ n
-unnamed zero none = refl
-unnamed (suc n) none =
-    let first : one_if none none ≡ 1 = here none none refl in
-    omega (arith, sum_by-cons (one_if none) none (replicate n none), first, unnamed n none)
-
-pub no_names : (n none : ℕ) → n ≤ none → AreNames none (replicate n none) []
-no_names n none few =
-    let count : length (replicate n none) ≡ n = length-replicate n none in
-    record {
-      names = λ k there named. absurd (omega (arith, named, get_or-replicate n k none 0 (omega (arith, there, count))));
-      named = λ m there. absurd (omega (arith, there));
-      count = omega (arith, unnamed n none, count);
-      few = omega (arith, few, count);
-    }
-
 -- there is a name left for a code that has none
 pub name_left : (none : ℕ) (fresh order : List ℕ) (k : ℕ) → AreNames none fresh order → k < length fresh → code_of fresh k ≡ none → length order < none
 name_left none fresh order k are there without =
@@ -91,16 +74,6 @@ pub record AreRenamedTo (i : ℕ) (old new order : List ℕ) : Type 0 where
   pub used : (n : ℕ) → n < length order → 0 < occurrences_of new n
   pub there : (n : ℕ) → n < length order → first_row_of new n < length new
   pub rising : (m n : ℕ) → m < n → n < length order → first_row_of new m < first_row_of new n
-
-pub renamed_none : (old : List ℕ) → AreRenamedTo 0 old [] []
-renamed_none old = record {
-  rows = refl;
-  named = λ j there. absurd (omega (arith, there));
-  same = λ j there. absurd (omega (arith, there));
-  used = λ n there. absurd (omega (arith, there));
-  there = λ n there. absurd (omega (arith, there));
-  rising = λ m n before there. absurd (omega (arith, there));
-}
 
 -- a code that has a row keeps its first
 first_kept : (codes : List ℕ) (code k : ℕ) → first_row_of codes k < length codes → first_row_of (codes ++ code ∷ []) k ≡ first_row_of codes k
@@ -157,19 +130,6 @@ renamed_more i old new order order' name are is =
       ];
     }
 
--- all rows are renamed
-pub renamed_all : (none tuples : ℕ) (fresh old new order : List ℕ) → AreNames none fresh order → length fresh ≡ tuples → AreRenamedTo (length old) old new order → AreRenamed tuples old new order
-renamed_all none tuples fresh old new order names size are = record {
-  rows = are.rows;
-  named = are.named;
-  same = are.same;
-  within = λ n there. omega (arith, (names.named n there).0, size);
-  distinct = λ m n m_there n_there same. sym (names.named m m_there).1 ∙ ap (code_of fresh) same ∙ (names.named n n_there).1;
-  used = are.used;
-  rising = are.rising;
-  few = omega (arith, names.count, size);
-}
-
 -- the values of one tuple
 pub record IsTuple (width code : ℕ) (values piece : List ℤ) : Type 0 where
   pub size : length piece ≡ width
@@ -199,34 +159,3 @@ in_order_more width i order values kept piece count is so_far k c there place = 
       get_or_append_left kept piece (pos 0) (k * width + c) within ∙ so_far k c before place
 ]
 
--- rows whose codes are renamed, and whose tuples are kept in the new order, keep their values
-pub rows_renamed : (a n width tuples : ℕ) (codes old new order : List ℕ) (values values' : List ℤ) → length old ≡ n → ((i : ℕ) → i < n → code_of old i ≡ code_of codes (a + i)) → ((i : ℕ) → i < n → code_of codes (a + i) < tuples) →
-    AreRenamed tuples old new order → AreInOrder width order values values' →
-    AreRowsFrom a n width codes (tuples_of width tuples values) new (tuples_of width (length order) values')
-rows_renamed a n width tuples codes old new order values values' count are_old below are in_order = record {
-  rows = are.rows ∙ count;
-  cells = λ i c row place.
-      (let name : code_of new i < length order = are.named i (omega (arith, row, count)) in
-      let is : code_of order (code_of new i) ≡ code_of codes (a + i) = are.same i (omega (arith, row, count)) ∙ are_old i row in
-      tuple_value width (length order) values' (code_of new i) c name place
-      ∙ in_order (code_of new i) c name place
-      ∙ ap (λ (k : ℕ). at values (k * width + c)) is
-      ∙ sym (tuple_value width tuples values (code_of codes (a + i)) c (below i row) place));
-  alike = λ i j i_row j_row.
-      (let i_name : code_of new i < length order = are.named i (omega (arith, i_row, count)) in
-      let j_name : code_of new j < length order = are.named j (omega (arith, j_row, count)) in
-      let i_is : code_of order (code_of new i) ≡ code_of codes (a + i) = are.same i (omega (arith, i_row, count)) ∙ are_old i i_row in
-      let j_is : code_of order (code_of new j) ≡ code_of codes (a + j) = are.same j (omega (arith, j_row, count)) ∙ are_old j j_row in
-      ((λ same. sym i_is ∙ ap (code_of order) same ∙ j_is), (λ same. are.distinct (code_of new i) (code_of new j) i_name j_name (i_is ∙ same ∙ sym j_is))));
-}
-
--- codes that are renamed are the codes of a group
-pub codes_renamed : (width tuples : ℕ) (old new order : List ℕ) (values : ℕ) → 1 ≤ length old → 1 ≤ width → length old * width ≤ most_cells → values ≡ length order * width → AreRenamed tuples old new order → AreCodes width (length order) new values
-codes_renamed width tuples old new order values a_row a_column few whole are = record {
-  a_row = omega (arith, a_row, are.rows);
-  a_column = a_column;
-  few_cells = rw are.rows few;
-  whole = whole;
-  in_tuples = λ i row. are.named i (omega (arith, row, are.rows));
-  used = are.used;
-}

@@ -66,12 +66,3 @@ rest_missed codes width n values others =
     (λ there. absurd (omega (arith, there))) in
     sym (ap (λ (j : ℕ). cond (ltb j (length tuples)) (Some j) None) place ∙ ap (λ (b : _). cond b (Some (length tuples)) None) (le-ltb (length tuples) (length tuples) (omega arith)))
 
--- the rest is one of the tuples
-below_if_some : (b : Bool) (k n : ℕ) → (b ≡ true → k < n) → ForSome (cond b (Some k) None) (λ j. j < n)
-below_if_some true k n there j is = (let same : k ≡ j = cc is in omega (arith, there refl, same))
-below_if_some false k n there j is = cc is
-
-pub rest_within : (codes : List ℕ) (tuples : List (List ℤ)) → ForSome (rest_of codes tuples) (λ k. k < length tuples)
-rest_within codes tuples =
-    let k = position_or_len is_zero tuples in
-    below_if_some (ltb k (length tuples)) k (length tuples) (ltb-true k (length tuples))

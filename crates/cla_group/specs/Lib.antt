@@ -5,8 +5,6 @@ pub mod Laws
 pub mod Renaming
 pub mod Counted
 pub mod Listed
-pub mod Runs
-pub mod RunLists
 pub mod Dictionaries
 pub mod Grouped
 pub mod Kinds

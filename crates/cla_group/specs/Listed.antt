@@ -25,30 +25,10 @@ rows_where test rows = filter test (range_with_len 0 rows)
 abbrev pub rows_of : List ℕ → ℕ → List ℕ
 rows_of codes k = rows_where (λ i. code_of codes i == k) (length codes)
 
--- a run of code k begins at a row that has it where the row before hasn't, and ends with a row that has it where the next
--- hasn't
+-- a run of code k begins at a row that has it where the row before hasn't
 abbrev pub begins_run : List ℕ → ℕ → ℕ → Bool
 begins_run codes k i = code_of codes i == k && (i == 0 || not (code_of codes (i - 1) == k))
 
-abbrev pub ends_run : List ℕ → ℕ → ℕ → Bool
-ends_run codes k i = code_of codes i == k && (i + 1 == length codes || not (code_of codes (i + 1) == k))
-
--- the first rows of the maximal runs of code k, and their last rows, in rising order
+-- the first rows of the maximal runs of code k, in rising order
 abbrev pub run_begins : List ℕ → ℕ → List ℕ
 run_begins codes k = rows_where (begins_run codes k) (length codes)
-
-abbrev pub run_lasts : List ℕ → ℕ → List ℕ
-run_lasts codes k = rows_where (ends_run codes k) (length codes)
-
--- the code of the rest; past all codes where there is none
-abbrev pub rest_or : ℕ → Option ℕ → ℕ
-rest_or tuples None = tuples
-rest_or tuples (Some rest) = rest
-
--- The codes of rows that are listed: `has k i` says that row i is listed under code k. A row in no list has the code of the
--- rest.
-abbrev pub code_listed : (ℕ → ℕ → Bool) → ℕ → Option ℕ → ℕ → ℕ
-code_listed has tuples rest i = let k = position_or_len (λ k. has k i) (range_with_len 0 tuples) in if nat_lt k tuples then k else rest_or tuples rest
-
-abbrev pub codes_listed : (ℕ → ℕ → Bool) → ℕ → ℕ → Option ℕ → List ℕ
-codes_listed has rows tuples rest = map (code_listed has tuples rest) (range_with_len 0 rows)

@@ -76,13 +76,3 @@ impl Join for Greatest {
         false
     }
 }
-
-// Joins a part with each of these places.
-pub(crate) fn join_all<J: Join>(part: Wide, places: &mut [Wide])
-    requires fits { (i : ℕ) → i < length places.old → J.can_join (at places.old i) part }
-    ensures { (i : ℕ) → i < length places.old → at places.new i ≡ J.join (at places.old i) part }
-{
-    for place in places.iter_mut() {
-        *place = J::joined(*place, part);
-    }
-}

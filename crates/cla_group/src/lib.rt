@@ -14,7 +14,6 @@ mod projected;
 mod renaming;
 mod rest;
 mod row_counts;
-mod run_rows;
 
 pub use dictionary::Dictionary;
 pub use group::Group;
@@ -26,8 +25,5 @@ pub use laws::{
     extremes_regroup, faults_regroup, first_places_regroup, sums_regroup, weighted_sums_regroup,
 };
 pub use owned::Owned;
-pub use projected::projected_values;
-pub use renaming::{Renaming, renamed, values_in_order};
-pub use rest::rest_tuple;
+pub use renaming::values_in_order;
 pub use row_counts::{Occurrences, counted};
-pub use run_rows::{RunList, run_list, run_lists};

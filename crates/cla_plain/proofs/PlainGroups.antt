@@ -23,16 +23,6 @@ plain_group bits width tuples are =
       small = are.small;
     }
 
--- tuples of a group are those of a dictionary
-pub group_tuples : (bits width : ℕ) (tuples : List (List ℤ)) → IsGroup bits width (range_with_len 0 (length tuples)) tuples → AreTuples bits width tuples
-group_tuples bits width tuples is = record {
-  a_column = is.a_column;
-  a_tuple = rw (rows_count (length tuples)) at is.a_row;
-  few = rw (rows_count (length tuples)) at is.few_cells;
-  full = is.full;
-  small = is.small;
-}
-
 some_rows : (n width values : ℕ) → values ≡ n * width → 1 ≤ values → 1 ≤ n
 some_rows zero width values whole some = absurd (omega (arith, whole, some))
 some_rows (suc n) width values whole some = omega arith

@@ -23,11 +23,13 @@ overflow_sub-result c =
     let kept = rw c.self.view_is at c.self.invariant in
     let run = there (goal.at.overflow_sub-result c).After-begin-begin in
     rw (c.begin-begin.ensures, c.number_of-number.ensures.number)
-    (previous_within kept.runs c.args.k c.requires.listed c.args.n c.previous_end.result run c.previous_end.ensures.first c.previous_end.ensures.later)
+    (previous_within kept.runs c.args.k c.requires.listed c.args.n c.previous_end.result run
+    c.previous_end.ensures.first c.previous_end.ensures.later)
 
 pub returns : goal.returns
 returns c =
     let kept = rw c.self.view_is at c.self.invariant in
     let run = there (goal.at.returns c).After-begin-begin in
     rw (c.begin-begin.ensures, c.end_before.ensures, c.number_of-number.ensures.number)
-    (run_is kept.runs c.args.k c.requires.listed c.args.n c.previous_end.result run c.previous_end.ensures.first c.previous_end.ensures.later)
+    (run_is kept.runs c.args.k c.requires.listed c.args.n c.previous_end.result run
+    c.previous_end.ensures.first c.previous_end.ensures.later)

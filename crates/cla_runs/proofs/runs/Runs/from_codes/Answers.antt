@@ -20,4 +20,5 @@ of_rows-requires g c =
     let whole : vec_len c.args.values ≡ length c.args.values.items = search rules in
     let n = length c.args.values.items / c.args.width in
     rw (c.new-dictionary.ensures, c.len.ensures, whole)
-    (group_with_values g.N.Number.BITS g.N.Number.value g.met.N.Number.in_range c.args.width n c.args.codes.now c.args.values.items c.requires.codes)
+    (group_with_values g.N.Number.BITS g.N.Number.value g.met.N.Number.in_range
+    c.args.width n c.args.codes.now c.args.values.items c.requires.codes)
