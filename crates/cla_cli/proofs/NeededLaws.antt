@@ -22,7 +22,8 @@ abbrev pub fresh : ℕ → Progress
 fresh limit = record { held = []; at = 0; limit = limit; line = []; lines = 0; ended = false }
 
 -- it has the whole file ahead
-fresh_ahead : (told : Told) (told' : Option Told) (reading : Option Reading) (name text : List ℕ) (limit : ℕ) → told' ≡ Some told → reading ≡ Some (record { name = name; place = 0 }) → fin.get told name ≡ Some text
+fresh_ahead : (told : Told) (told' : Option Told) (reading : Option Reading) (name text : List ℕ) (limit : ℕ) → told' ≡ Some told
+    → reading ≡ Some (record { name = name; place = 0 }) → fin.get told name ≡ Some text
     → ahead_of (fresh limit) (left_where_told told' reading) ≡ Some text
 fresh_ahead told told' reading name text limit e f h = rw (e, f, h) refl
 
@@ -30,41 +31,51 @@ none_of : {X : Type 0} (o : Option X) → ((x : X) → o ≡ Some x → ⊥) →
 none_of None h = refl
 none_of (Some x) h = absurd (h x refl)
 
-is_text : (text : List ℕ) (q : Progress) (bytes : Vec ℕ Global) (o2 : Option (List ℕ)) → length bytes.items ≤ script_limit → TakesWholeWhereTold (fresh script_limit) q (Some text) o2 (Ok bytes) → IsText text bytes
+is_text : (text : List ℕ) (q : Progress) (bytes : Vec ℕ Global) (o2 : Option (List ℕ)) → length bytes.items ≤ script_limit
+    → TakesWholeWhereTold (fresh script_limit) q (Some text) o2 (Ok bytes) → IsText text bytes
 is_text text q bytes None short h = absurd h
 is_text text q bytes (Some after) short h = (h.0, rw h.0 at short)
 
 -- a script's text that was read
-pub text_read : (told told' : Option Told) (reading : Option Reading) (name : List ℕ) (bytes : Vec ℕ Global) (p q : Progress) (o2 : Option (List ℕ)) → told' ≡ told → Opens {R = ScriptFault} told name reading (Ok tt) → p ≡ fresh script_limit
-    → length bytes.items ≤ script_limit → TakesWholeWhereTold p q (ahead_of p (left_where_told told' reading)) o2 (Ok bytes) → ReadsText told name (Ok bytes)
+pub text_read : (told told' : Option Told) (reading : Option Reading) (name : List ℕ) (bytes : Vec ℕ Global) (p q : Progress)
+    (o2 : Option (List ℕ)) → told' ≡ told → Opens {R = ScriptFault} told name reading (Ok tt) → p ≡ fresh script_limit
+    → length bytes.items ≤ script_limit → TakesWholeWhereTold p q (ahead_of p (left_where_told told' reading)) o2 (Ok bytes)
+    → ReadsText told name (Ok bytes)
 text_read None told' reading name bytes p q o2 same opens start short takes = tt
 text_read (Some t) told' reading name bytes p q o2 same opens start short takes =
     let ahead = fresh_ahead t told' reading name opens.1.0 script_limit same opens.0 opens.1.1 in
     (opens.1.0, opens.1.1, is_text opens.1.0 q bytes o2 short (rw (start, ahead) at takes))
 
-is_too_long : (text : List ℕ) (q : Progress) (o2 : Option (List ℕ)) → q.limit ≡ script_limit → TakesWholeWhereTold (fresh script_limit) q (Some text) o2 (Err input.TooLong) → script_limit < length text
+is_too_long : (text : List ℕ) (q : Progress) (o2 : Option (List ℕ)) → q.limit ≡ script_limit
+    → TakesWholeWhereTold (fresh script_limit) q (Some text) o2 (Err input.TooLong) → script_limit < length text
 is_too_long text q None same h = absurd h
 is_too_long text q (Some after) same h = rw same at h
 
 -- one that is too long
-pub text_too_long : (told told' : Option Told) (reading : Option Reading) (name : List ℕ) (p q : Progress) (o2 : Option (List ℕ)) → told' ≡ told → Opens {R = ScriptFault} told name reading (Ok tt) → p ≡ fresh script_limit
-    → q.limit ≡ p.limit → TakesWholeWhereTold p q (ahead_of p (left_where_told told' reading)) o2 (Err input.TooLong) → ReadsText told name (Err (Refused TooLong))
+pub text_too_long : (told told' : Option Told) (reading : Option Reading) (name : List ℕ) (p q : Progress) (o2 : Option (List ℕ))
+    → told' ≡ told → Opens {R = ScriptFault} told name reading (Ok tt) → p ≡ fresh script_limit
+    → q.limit ≡ p.limit → TakesWholeWhereTold p q (ahead_of p (left_where_told told' reading)) o2 (Err input.TooLong)
+    → ReadsText told name (Err (Refused TooLong))
 text_too_long None told' reading name p q o2 same opens start limit takes = tt
 text_too_long (Some t) told' reading name p q o2 same opens start limit takes =
     let ahead = fresh_ahead t told' reading name opens.1.0 script_limit same opens.0 opens.1.1 in
     let size : q.limit ≡ script_limit = limit ∙ ap (λ (x : Progress). x.limit) start in
     (opens.1.0, opens.1.1, is_too_long opens.1.0 q o2 size (rw (start, ahead) at takes))
 
-is_table : (bits : ℕ) (text : List ℕ) (m : Matrix) (o2 : Option (List ℕ)) → bits ≤ 63 → ReadsArrayFile bits table_limit (Some text) o2 (Ok m) → array_in bits table_limit text ≡ Some m
+is_table : (bits : ℕ) (text : List ℕ) (m : Matrix) (o2 : Option (List ℕ)) → bits ≤ 63
+    → ReadsArrayFile bits table_limit (Some text) o2 (Ok m) → array_in bits table_limit text ≡ Some m
 is_table bits text m None few h = absurd h
 is_table bits text m (Some after) few h = array_in-complete bits table_limit text m few h.0
 
-isnt_table : (bits n : ℕ) (text : List ℕ) (o2 : Option (List ℕ)) → ReadsArrayFile bits table_limit (Some text) o2 (Err (Banner n)) → (Banner n ≡ Banner 1) × (array_in bits table_limit text ≡ None)
+isnt_table : (bits n : ℕ) (text : List ℕ) (o2 : Option (List ℕ)) → ReadsArrayFile bits table_limit (Some text) o2 (Err (Banner n))
+    → (Banner n ≡ Banner 1) × (array_in bits table_limit text ≡ None)
 isnt_table bits n text None h = absurd h
-isnt_table bits n text (Some after) h = (ap Banner h.0, none_of (array_in bits table_limit text) (λ m e. h.1 m (array_in-sound bits table_limit text m e)))
+isnt_table bits n text (Some after) h =
+    (ap Banner h.0, none_of (array_in bits table_limit text) (λ m e. h.1 m (array_in-sound bits table_limit text m e)))
 
 -- a table that was read
-pub table_read : (bits : ℕ) (told told' : Option Told) (reading : Option Reading) (name : List ℕ) (m : Matrix) (p : Progress) (o2 : Option (List ℕ)) → bits ≤ 63 → told' ≡ told → Opens {R = MtxFault} told name reading (Ok tt) → p ≡ fresh table_limit
+pub table_read : (bits : ℕ) (told told' : Option Told) (reading : Option Reading) (name : List ℕ) (m : Matrix) (p : Progress)
+    (o2 : Option (List ℕ)) → bits ≤ 63 → told' ≡ told → Opens {R = MtxFault} told name reading (Ok tt) → p ≡ fresh table_limit
     → ReadsArrayFile bits p.limit (ahead_of p (left_where_told told' reading)) o2 (Ok m) → ReadsTable bits told name (Ok m)
 table_read bits None told' reading name m p o2 few same opens start reads = tt
 table_read bits (Some t) told' reading name m p o2 few same opens start reads =
@@ -72,8 +83,10 @@ table_read bits (Some t) told' reading name m p o2 few same opens start reads =
     (opens.1.0, opens.1.1, is_table bits opens.1.0 m o2 few (rw (start, ahead) at reads))
 
 -- a table that was refused
-pub table_refused : (bits n : ℕ) (told told' : Option Told) (reading : Option Reading) (name : List ℕ) (p : Progress) (o2 : Option (List ℕ)) → told' ≡ told → Opens {R = MtxFault} told name reading (Ok tt) → p ≡ fresh table_limit
-    → ReadsArrayFile bits p.limit (ahead_of p (left_where_told told' reading)) o2 (Err (Banner n)) → ReadsTable bits told name (Err (Refused (Banner n)))
+pub table_refused : (bits n : ℕ) (told told' : Option Told) (reading : Option Reading) (name : List ℕ) (p : Progress)
+    (o2 : Option (List ℕ)) → told' ≡ told → Opens {R = MtxFault} told name reading (Ok tt) → p ≡ fresh table_limit
+    → ReadsArrayFile bits p.limit (ahead_of p (left_where_told told' reading)) o2 (Err (Banner n))
+    → ReadsTable bits told name (Err (Refused (Banner n)))
 table_refused bits n None told' reading name p o2 same opens start reads = tt
 table_refused bits n (Some t) told' reading name p o2 same opens start reads =
     let ahead = fresh_ahead t told' reading name opens.1.0 table_limit same opens.0 opens.1.1 in

@@ -56,22 +56,27 @@ one_line : (rest line : List ℕ) → first_line rest ≡ line → (line ≡ [] 
 one_line [] line e some end = absurd (some (sym e ∙ first_line-nil))
 one_line (b ∷ bs) line e some end = lines_of-cons (b ∷ bs) (omega arith) ∙ rw (e, end, lines_of-nil) refl
 
-both_lines : (text first second : List ℕ) → first_line text ≡ first → (first ≡ [] → ⊥) → first_line (after_line text) ≡ second → (second ≡ [] → ⊥) → after_line (after_line text) ≡ [] → lines_of text ≡ first ∷ second ∷ []
+both_lines : (text first second : List ℕ) → first_line text ≡ first → (first ≡ [] → ⊥) → first_line (after_line text) ≡ second
+    → (second ≡ [] → ⊥) → after_line (after_line text) ≡ [] → lines_of text ≡ first ∷ second ∷ []
 both_lines [] first second e some f more end = absurd (some (sym e ∙ first_line-nil))
-both_lines (b ∷ bs) first second e some f more end = lines_of-cons (b ∷ bs) (omega arith) ∙ rw (e, one_line (after_line (b ∷ bs)) second f more end) refl
+both_lines (b ∷ bs) first second e some f more end = lines_of-cons (b ∷ bs) (omega arith)
+    ∙ rw (e, one_line (after_line (b ∷ bs)) second f more end) refl
 
 print_some : (factor : Option ℕ) → print_line factor ≡ [] → ⊥
 print_some None e = absurd (cc)
 print_some (Some k) e = absurd (cc)
 
 -- a text whose two lines are those of a sum script is that script
-pub script_found : (bits : ℕ) (text : List ℕ) (script : SumScript) → bits ≤ 63 → length text ≤ script_limit → IsReadLine (first_line text) script.table
-    → first_line (after_line text) ≡ print_line script.factor → is_factor bits script.factor ≡ true → after_line (after_line text) ≡ [] → sum_script_in bits script_limit text ≡ Some script
+pub script_found : (bits : ℕ) (text : List ℕ) (script : SumScript) → bits ≤ 63 → length text ≤ script_limit
+    → IsReadLine (first_line text) script.table
+    → first_line (after_line text) ≡ print_line script.factor → is_factor bits script.factor ≡ true → after_line (after_line text) ≡ []
+    → sum_script_in bits script_limit text ≡ Some script
 script_found bits text script few short read print factored end = sum_script_in-complete bits script_limit text script few (record {
   named = read.1;
   factored = factored;
   short = short;
-  lines = both_lines text (read_line script.table) (print_line script.factor) read.0 (λ e. absurd (cc)) print (print_some script.factor) end;
+  lines = both_lines text (read_line script.table) (print_line script.factor) read.0 (λ e. absurd (cc)) print (print_some script.factor)
+  end;
 })
 
 -- the lines of a text of two
@@ -101,16 +106,19 @@ none_of : {X : Type 0} (o : Option X) → ((x : X) → o ≡ Some x → ⊥) →
 none_of None h = refl
 none_of (Some x) h = absurd (h x refl)
 
-lines_in : (bits : ℕ) (text : List ℕ) (script : SumScript) → sum_script_in bits script_limit text ≡ Some script → HasTwo text (read_line script.table) (print_line script.factor)
+lines_in : (bits : ℕ) (text : List ℕ) (script : SumScript) → sum_script_in bits script_limit text ≡ Some script
+    → HasTwo text (read_line script.table) (print_line script.factor)
 lines_in bits text script e = two_lines text _ _ (sum_script_in-sound bits script_limit text script e).lines
 
 -- a text whose first line reads no table is no sum script
 pub no_read : (bits : ℕ) (text : List ℕ) → IsNoReadLine (first_line text) → sum_script_in bits script_limit text ≡ None
-no_read bits text bad = none_of (sum_script_in bits script_limit text) (λ script e. bad script.table (sum_script_in-sound bits script_limit text script e).named (lines_in bits text script e).first)
+no_read bits text bad = none_of (sum_script_in bits script_limit text)
+    (λ script e. bad script.table (sum_script_in-sound bits script_limit text script e).named (lines_in bits text script e).first)
 
 -- nor is one whose second line prints nothing
 pub no_print : (bits : ℕ) (text : List ℕ) → IsNoPrintLine bits (first_line (after_line text)) → sum_script_in bits script_limit text ≡ None
-no_print bits text bad = none_of (sum_script_in bits script_limit text) (λ script e. bad script.factor (sum_script_in-sound bits script_limit text script e).factored (lines_in bits text script e).second)
+no_print bits text bad = none_of (sum_script_in bits script_limit text)
+    (λ script e. bad script.factor (sum_script_in-sound bits script_limit text script e).factored (lines_in bits text script e).second)
 
 -- nor is one of more lines
 pub no_end : (bits : ℕ) (text : List ℕ) → (after_line (after_line text) ≡ [] → ⊥) → sum_script_in bits script_limit text ≡ None

@@ -40,14 +40,17 @@ ReadsIn Holds Refuses told name (Err Fault) = Unit {0}
 ReadsIn Holds Refuses told name (Err Memory) = Unit {0}
 ReadsIn Holds Refuses told name (Err (Refused r)) = (text : List ℕ) × (fin.get told name ≡ Some text) × Refuses text r
 
-abbrev pub ReadsWhereTold : {T R : Type 0} → (List ℕ → T → Type 0) → (List ℕ → R → Type 0) → Option Told → List ℕ → Result T (Unread R) → Type 0
+abbrev pub ReadsWhereTold : {T R : Type 0} → (List ℕ → T → Type 0) → (List ℕ → R → Type 0) → Option Told → List ℕ → Result T (Unread R)
+    → Type 0
 ReadsWhereTold Holds Refuses None name result = Unit {0}
 ReadsWhereTold Holds Refuses (Some told) name result = ReadsIn Holds Refuses told name result
 
 -- a file that was opened is read from its first byte
 abbrev pub Opens : {R : Type 0} → Option Told → List ℕ → Option Reading → Result (Unit {0}) (Unread R) → Type 0
-Opens {R} told name reading (Ok u) = (reading ≡ Some (record { name = name; place = 0 })) × ReadsWhereTold {T = Unit {0}} {R = R} (λ text u. Unit {0}) (λ text r. ⊥) told name (Ok u)
-Opens {R} told name reading (Err e) = (reading ≡ None) × ReadsWhereTold {T = Unit {0}} {R = R} (λ text u. Unit {0}) (λ text r. ⊥) told name (Err e)
+Opens {R} told name reading (Ok u) = (reading ≡ Some (record { name = name; place = 0 }))
+    × ReadsWhereTold {T = Unit {0}} {R = R} (λ text u. Unit {0}) (λ text r. ⊥) told name (Ok u)
+Opens {R} told name reading (Err e) = (reading ≡ None)
+    × ReadsWhereTold {T = Unit {0}} {R = R} (λ text u. Unit {0}) (λ text r. ⊥) told name (Err e)
 
 -- the whole text of a script
 abbrev pub IsText : List ℕ → Vec ℕ Global → Type 0

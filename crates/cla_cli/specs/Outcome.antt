@@ -14,6 +14,7 @@ use Rattle.cla_mtx.specs.declared.fault.MtxFault.TheVariants as mtx
 use Rattle.cla_cli.specs.declared.status.Status.{Status}
 use Rattle.cla_cli.specs.declared.status.Status.TheVariants.{Done, Usage, Missing, BadScript, BadFile, Limit, Operator}
 use Rattle.cla_cli.specs.declared.status.Place.{Place}
+use Rattle.cla_cli.specs.declared.status.BadKind.{BadKind}
 use Rattle.cla_cli.specs.declared.status.BadKind.TheVariants as kind
 use Rattle.cla_cli.specs.declared.status.ScriptKind.TheVariants as script
 use Rattle.cla_cli.specs.declared.status.FileFault.TheVariants as file
@@ -51,11 +52,13 @@ abbrev pub needing : List ℕ → Outcome → Outcome
 needing name outcome = record outcome { needed = name ∷ outcome.needed }
 
 -- The checks. Each refuses, or lets the next ones decide.
+
+-- what a check makes of what it is given
 abbrev pub unless_refused : {X : Type 0} → Result X Refusal → (X → Outcome) → Outcome
 unless_refused (Ok x) next = next x
 unless_refused (Err refusal) next = refused refusal
 
--- the words are a command
+-- the words are no command
 abbrev pub usage_refusal : Refusal
 usage_refusal = record { status = Usage; line = Some usage_line }
 
@@ -63,7 +66,7 @@ abbrev pub unless_usage : Option Command → (Command → Outcome) → Outcome
 unless_usage None next = refused usage_refusal
 unless_usage (Some command) next = next command
 
--- a file is there
+-- a file is absent
 abbrev pub missing_refusal : List ℕ → Refusal
 missing_refusal name = record { status = Missing; line = Some (missing_line name) }
 
@@ -71,19 +74,23 @@ abbrev pub unless_missing : List ℕ → Option (List ℕ) → (List ℕ → Out
 unless_missing name None next = refused (missing_refusal name)
 unless_missing name (Some text) next = next text
 
--- a text isn't too long
+-- a text is longer than its limit
 abbrev pub limit_refusal : List ℕ → ℕ → Refusal
 limit_refusal name limit = record { status = Limit; line = Some (limit_line name limit) }
 
 abbrev pub unless_longer : List ℕ → ℕ → List ℕ → Outcome → Outcome
 unless_longer name limit text next = if nat_le (length text) limit then next else refused (limit_refusal name limit)
 
--- a text is a script of the form that runs
 abbrev pub place_at : ℕ → ℕ → Place
 place_at line col = record { line = line; col = col }
 
+-- a script is refused at a place
+abbrev pub refusal_at : Place → BadKind → Refusal
+refusal_at place kind = record { status = BadScript place kind; line = Some (script_line place kind) }
+
+-- a text is no script of the form that runs
 abbrev pub script_refusal : Refusal
-script_refusal = record { status = BadScript (place_at 1 1) (kind.Script script.Syntax); line = Some (script_line (place_at 1 1) (kind.Script script.Syntax)) }
+script_refusal = refusal_at (place_at 1 1) (kind.Script script.Syntax)
 
 abbrev pub script_or_refusal : Option SumScript → Result SumScript Refusal
 script_or_refusal None = Err script_refusal
@@ -92,7 +99,7 @@ script_or_refusal (Some script) = Ok script
 abbrev pub checked_script : ℕ → List ℕ → Result SumScript Refusal
 checked_script bits text = script_or_refusal (sum_script_in bits script_limit text)
 
--- a text is a table of the form that is read; no line tells it today
+-- a text is no table of the form that is read; no line tells it today
 abbrev pub table_refusal : Refusal
 table_refusal = record { status = BadFile (file.Mtx (mtx.Banner 1)); line = None }
 
@@ -107,7 +114,8 @@ checked_table bits text = table_or_refusal (array_in bits table_limit text)
 abbrev pub with_tables : ℕ → Told → List (List ℕ) → (List Matrix → Outcome) → Outcome
 with_tables bits told [] next = next []
 with_tables bits told (name ∷ names) next =
-    needing name (unless_missing name (fin.get told name) (λ text. unless_refused (checked_table bits text) (λ m. with_tables bits told names (λ ms. next (m ∷ ms)))))
+    needing name (unless_missing name (fin.get told name)
+    (λ text. unless_refused (checked_table bits text) (λ m. with_tables bits told names (λ ms. next (m ∷ ms)))))
 
 -- What the statements of a script come to: their effects, and the operator that fails after these, if one does.
 pub record Trace : Type 0 where
@@ -162,7 +170,8 @@ line_after None = None
 line_after (Some fault) = Some (operator_line fault.0 fault.1)
 
 abbrev pub evaluated : Counts → Trace → Outcome
-evaluated counts trace = record { status = status_after trace.fault; effects = trace.effects; needed = []; counts = counts; line = line_after trace.fault }
+evaluated counts trace = record
+    { status = status_after trace.fault; effects = trace.effects; needed = []; counts = counts; line = line_after trace.fault }
 
 -- a sum script over its table
 abbrev pub sum_outcome : ℕ → Option ℤ → Matrix → Outcome
@@ -182,7 +191,8 @@ abbrev pub run_outcome : ℕ → Told → List ℕ → Outcome
 run_outcome bits told name =
     needing name
     (unless_missing name (fin.get told name)
-    (λ text. unless_longer name script_limit text (unless_refused (checked_script bits text) (λ script. with_tables bits told (tables_of script) (tables_outcome bits script)))))
+    (λ text. unless_longer name script_limit text
+    (unless_refused (checked_script bits text) (λ script. with_tables bits told (tables_of script) (tables_outcome bits script)))))
 
 abbrev pub command_outcome : ℕ → Told → Command → Outcome
 command_outcome bits told (RunScript name) = run_outcome bits told name

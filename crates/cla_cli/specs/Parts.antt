@@ -29,20 +29,25 @@ use Rattle.cla_cli.specs.Run.{Settled, OutOfMemory, ReadFailed, WriteFailed, IsR
 -- A command is done, or why it isn't: each as one ending of its outcome.
 abbrev pub Comes : {U : Type 0} → Outcome → Told → Told → State → State → Written → Written → Result U Unfinished → Type 0
 Comes o told told' old new out out' (Ok u) = (o.status ≡ answer.Done) × MayEnd o told told' old new out out' Settled None
-Comes o told told' old new out out' (Err (unfinished.Refused status line)) = (o.status ≡ status) × MayEnd o told told' old new out out' Settled line
+Comes o told told' old new out out' (Err (unfinished.Refused status line)) = (o.status ≡ status)
+    × MayEnd o told told' old new out out' Settled line
 Comes o told told' old new out out' (Err (unfinished.Unread line)) = MayEnd o told told' old new out out' ReadFailed (Some line)
-Comes o told told' old new out out' (Err unfinished.OutputUnwritten) = MayEnd o told told' old new out out' WriteFailed (Some (unwritable_line (Out [])))
+Comes o told told' old new out out' (Err unfinished.OutputUnwritten) = MayEnd o told told' old new out out' WriteFailed
+    (Some (unwritable_line (Out [])))
 Comes o told told' old new out out' (Err unfinished.Memory) = MayEnd o told told' old new out out' OutOfMemory (Some memory_line)
 
-abbrev pub ComesWhereTold : {U : Type 0} → ℕ → List ℕ → Option Told → Option Told → State → State → Written → Written → Result U Unfinished → Type 0
+abbrev pub ComesWhereTold : {U : Type 0} → ℕ → List ℕ → Option Told → Option Told → State → State → Written → Written
+    → Result U Unfinished → Type 0
 ComesWhereTold bits name None told' old new out out' result = told' ≡ None
 ComesWhereTold bits name (Some told) None old new out out' result = ⊥
-ComesWhereTold bits name (Some told) (Some told') old new out out' result = Comes (run_outcome bits told name) told told' old new out out' result
+ComesWhereTold bits name (Some told) (Some told') old new out out' result = Comes (run_outcome bits told name) told told' old new out
+    out' result
 
 -- which counts tell of it, whether anything else is told or not
 abbrev pub HasEnding : {U : Type 0} → State → State → ℕ → ℕ → Result U Unfinished → Type 0
 HasEnding old new before after (Ok u) = FaultsCome old new before after Settled × (new.misses ≡ old.misses)
-HasEnding old new before after (Err (unfinished.Refused status line)) = IsRefusal status × FaultsCome old new before after Settled × MissesCome old new status
+HasEnding old new before after (Err (unfinished.Refused status line)) = IsRefusal status × FaultsCome old new before after Settled
+    × MissesCome old new status
 HasEnding old new before after (Err (unfinished.Unread line)) = FaultsCome old new before after ReadFailed × (new.misses ≡ old.misses)
 HasEnding old new before after (Err unfinished.OutputUnwritten) = FaultsCome old new before after WriteFailed × (new.misses ≡ old.misses)
 HasEnding old new before after (Err unfinished.Memory) = Unit {0}
@@ -114,7 +119,8 @@ Prints v out out' (Err stop.Memory) = (out'.faults ≡ out.faults) × ((n : ℕ)
 
 -- a line is told: the status stays where it can't be written, and is that of want of memory where that is wanting
 abbrev pub TellsLine : List ℕ → Status → Written → Written → Status → Type 0
-TellsLine line status err err' result = ((result ≡ status) × HasLine (Some line) err err') ⊎ ((result ≡ answer.Memory) × HasFrontOfLine (Some line) err err')
+TellsLine line status err err' result = ((result ≡ status) × HasLine (Some line) err err') ⊎
+    ((result ≡ answer.Memory) × HasFrontOfLine (Some line) err err')
 
 -- what a command that isn't done tells
 abbrev pub Tells : Unfinished → Written → Written → Status → Type 0

@@ -61,17 +61,20 @@ abbrev pub Leaves : Outcome → World → World → Written → Written → Endi
 Leaves o w v out out' Settled line = (v ≡ applied o.effects w) × (line ≡ o.line)
 Leaves o w v out out' OutOfMemory line = IsFront o.effects w v × (line ≡ Some memory_line)
 Leaves o w v out out' ReadFailed line = (v ≡ w) × ((name : List ℕ) × Contains o.needed name × (line ≡ Some (unreadable_line name)))
-Leaves o w v out out' WriteFailed line = (e : Effect) × IsFrontBefore o.effects e w v × FaultRose e out out' × (line ≡ Some (unwritable_line e))
+Leaves o w v out out' WriteFailed line = (e : Effect) × IsFrontBefore o.effects e w v × FaultRose e out out'
+    × (line ≡ Some (unwritable_line e))
 
 -- a run over files that told and tell this may end so, with this line
 abbrev pub MayEnd : Outcome → Told → Told → State → State → Written → Written → Ending → Option (List ℕ) → Type 0
 MayEnd o told told' old new out out' ending line =
-    FaultsCome old new out.faults out'.faults ending × Leaves o (record { told = told; out = out.told }) (record { told = told'; out = out'.told }) out out' ending line
+    FaultsCome old new out.faults out'.faults ending
+    × Leaves o (record { told = told; out = out.told }) (record { told = told'; out = out'.told }) out out' ending line
 
 -- a line stands on standard error, or a prefix of it where its faults rose
 abbrev pub HasLine : Option (List ℕ) → Written → Written → Type 0
 HasLine None err err' = err'.told ≡ err.told
-HasLine (Some line) err err' = (err'.told ≡ grown err.told line) ⊎ (Rose err.faults err'.faults × ((n : ℕ) × (err'.told ≡ grown err.told (take n line))))
+HasLine (Some line) err err' = (err'.told ≡ grown err.told line) ⊎
+    (Rose err.faults err'.faults × ((n : ℕ) × (err'.told ≡ grown err.told (take n line))))
 
 -- a line stands there as far as memory was there for it
 abbrev pub HasFrontOfLine : Option (List ℕ) → Written → Written → Type 0
@@ -81,16 +84,22 @@ HasFrontOfLine (Some line) err err' = (n : ℕ) × (err'.told ≡ grown err.told
 -- How a run ends: one witness ties its status, its effects and its line. Where memory is wanting, it was wanting for the
 -- run or for the line of another ending.
 abbrev pub Ends : Outcome → Told → Told → State → State → Written → Written → Written → Written → Status → Ending → Type 0
-Ends o told told' old new out out' err err' status Settled = (o.status ≡ status) × MayEnd o told told' old new out out' Settled o.line × HasLine o.line err err'
-Ends o told told' old new out out' err err' status OutOfMemory = (ending : Ending) × ((line : Option (List ℕ)) × MayEnd o told told' old new out out' ending line × HasFrontOfLine line err err')
-Ends o told told' old new out out' err err' status ReadFailed = (line : Option (List ℕ)) × MayEnd o told told' old new out out' ReadFailed line × HasLine line err err'
-Ends o told told' old new out out' err err' status WriteFailed = (line : Option (List ℕ)) × MayEnd o told told' old new out out' WriteFailed line × HasLine line err err'
+Ends o told told' old new out out' err err' status Settled = (o.status ≡ status) × MayEnd o told told' old new out out' Settled o.line
+    × HasLine o.line err err'
+Ends o told told' old new out out' err err' status OutOfMemory = (ending : Ending)
+    × ((line : Option (List ℕ)) × MayEnd o told told' old new out out' ending line × HasFrontOfLine line err err')
+Ends o told told' old new out out' err err' status ReadFailed = (line : Option (List ℕ))
+    × MayEnd o told told' old new out out' ReadFailed line × HasLine line err err'
+Ends o told told' old new out out' err err' status WriteFailed = (line : Option (List ℕ))
+    × MayEnd o told told' old new out out' WriteFailed line × HasLine line err err'
 
 -- the same, where the files tell
-abbrev pub EndsWhereTold : ℕ → List (List ℕ) → Option Told → Option Told → State → State → Written → Written → Written → Written → Status → Type 0
+abbrev pub EndsWhereTold : ℕ → List (List ℕ) → Option Told → Option Told → State → State → Written → Written → Written → Written
+    → Status → Type 0
 EndsWhereTold bits words None told' old new out out' err err' status = told' ≡ None
 EndsWhereTold bits words (Some told) None old new out out' err err' status = ⊥
-EndsWhereTold bits words (Some told) (Some told') old new out out' err err' status = Ends (outcome_of bits words told) told told' old new out out' err err' status (ending_of status)
+EndsWhereTold bits words (Some told) (Some told') old new out out' err err' status = Ends (outcome_of bits words told) told told' old
+    new out out' err err' status (ending_of status)
 
 -- how often files were missing: once more with that status, and as often as before with others; with want of memory
 -- nothing is said
@@ -103,7 +112,8 @@ MissesCome old new status = new.misses ≡ old.misses
 abbrev pub Completes : ℕ → List (List ℕ) → Option Told → State → State → ℕ → ℕ → Status → Type 0
 Completes bits words None old new before after status = Unit {0}
 Completes bits words (Some told) old new before after status =
-    (outcome_of bits words told).status ≡ Done → (Rose old.read_faults new.read_faults → ⊥) → (Rose before after → ⊥) → (status ≡ Done) ⊎ (status ≡ Memory)
+    (outcome_of bits words told).status ≡ Done → (Rose old.read_faults new.read_faults → ⊥) → (Rose before after → ⊥)
+    → (status ≡ Done) ⊎ (status ≡ Memory)
 
 -- whether files are steady stays, and no count of theirs falls
 pub record Keeps (old new : State) : Type 0 where

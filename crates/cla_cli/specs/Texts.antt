@@ -43,7 +43,8 @@ abbrev pub bad_kind_text : BadKind → List ℕ
 bad_kind_text (Script kind) = kind_text kind
 
 abbrev pub script_line : Place → BadKind → List ℕ
-script_line place kind = codes "script " ++ decimal_of (pos place.line) ++ codes ":" ++ decimal_of (pos place.col) ++ codes ": " ++ bad_kind_text kind ++ codes "\n"
+script_line place kind = codes "script " ++ decimal_of (pos place.line) ++ codes ":" ++ decimal_of (pos place.col) ++ codes ": " ++
+    bad_kind_text kind ++ codes "\n"
 
 -- what is wrong with an entry
 abbrev pub reason_text : What → List ℕ
@@ -53,4 +54,5 @@ reason_text Zero = codes ") divides by zero"
 -- the line that tells an operator's fault: its place, and its first faulty entry
 abbrev pub operator_line : Place → OpFault → List ℕ
 operator_line place fault =
-    codes "operator " ++ decimal_of (pos place.line) ++ codes ":" ++ decimal_of (pos place.col) ++ codes ": entry (" ++ decimal_of (pos fault.row) ++ codes ", " ++ decimal_of (pos fault.col) ++ reason_text fault.what ++ codes "\n"
+    codes "operator " ++ decimal_of (pos place.line) ++ codes ":" ++ decimal_of (pos place.col) ++ codes ": entry (" ++ decimal_of
+    (pos fault.row) ++ codes ", " ++ decimal_of (pos fault.col) ++ reason_text fault.what ++ codes "\n"

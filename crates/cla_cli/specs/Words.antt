@@ -14,5 +14,6 @@ is_place word = nat_lt 0 (length word) && not (slice_index word 0 == 45)
 abbrev pub accepted_command : ℕ → List (List ℕ) → Option Command
 accepted_command bits [] = None
 accepted_command bits (command ∷ []) = None
-accepted_command bits (command ∷ script ∷ []) = if pointwise nat_eq command (codes "run") && is_place script then Some (RunScript script) else None
+accepted_command bits (command ∷ script ∷ []) = if pointwise nat_eq command (codes "run") && is_place script then Some
+    (RunScript script) else None
 accepted_command bits (command ∷ script ∷ word ∷ words) = None

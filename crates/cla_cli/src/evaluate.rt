@@ -50,8 +50,11 @@ fn evaluate_group<N: Number, G: Owned<N> + Drop>(
 ) -> Result<N, Failed>
     requires bits { IsSupported N.BITS }
     requires room { AreBelow run_bound meter.old }
-    ensures sum { (m : Matrix) → GroupStandsFor (G.columns table.now) (G.codes table.now) (G.dictionary table.now) m → ComesTo N.value (factor_trace N.BITS (option_map N.value factor) m) result }
-    ensures counts { CountsTo (factor_counts (option_map N.value factor) (length (G.dictionary table.now) * G.columns table.now)) meter.old meter.new result }
+    ensures sum { (m : Matrix) → GroupStandsFor (G.columns table.now) (G.codes table.now) (G.dictionary table.now) m →
+        ComesTo N.value (factor_trace N.BITS (option_map N.value factor) m) result }
+    ensures counts {
+        CountsTo (factor_counts (option_map N.value factor) (length (G.dictionary table.now) * G.columns table.now))
+        meter.old meter.new result }
 {
     let Some(k) = factor else {
         return summed(table, meter);
@@ -70,8 +73,11 @@ fn evaluate_group<N: Number, G: Owned<N> + Drop>(
 fn summed<N: Number, G: Group<N>>(g: &G, meter: &mut Meter) -> Result<N, Failed>
     requires bits { IsSupported N.BITS }
     requires room { AreBelow kernel_bound meter.old }
-    ensures sum { ComesTo N.value (exact_trace N.BITS (sum_of_entries (length (G.codes g.now)) (G.columns g.now) (cell_of (G.codes g.now) (G.dictionary g.now)))) result }
-    ensures counts { meter.new ≡ record meter.old { mults = meter.old.mults + length (G.dictionary g.now) * G.columns g.now } }
+    ensures sum {
+        let cell = cell_of (G.codes g.now) (G.dictionary g.now) in
+        ComesTo N.value (exact_trace N.BITS (sum_of_entries (length (G.codes g.now)) (G.columns g.now) cell)) result }
+    ensures counts {
+        meter.new ≡ record meter.old { mults = meter.old.mults + length (G.dictionary g.now) * G.columns g.now } }
 {
     match sum_group(g, meter) {
         Ok(sum) => Ok(sum),

@@ -45,17 +45,20 @@ pub fn run<N: Number, F: Files, O: Sink, E: Sink>(
         (F.state files.old).told (F.state files.new).told (F.state files.old) (F.state files.new)
         (written (O.told out.old) (O.faults out.old)) (written (O.told out.new) (O.faults out.new))
         (written (E.told err.old) (E.faults err.old)) (written (E.told err.new) (E.faults err.new)) result }
-    ensures counts { CountsWhereTold N.BITS (map string_bytes words.now) (F.state files.old).told meter.old meter.new result }
+    ensures counts { CountsWhereTold N.BITS (map string_bytes words.now)
+        (F.state files.old).told meter.old meter.new result }
     ensures completes { Completes N.BITS (map string_bytes words.now)
         (F.state files.old).told (F.state files.old) (F.state files.new) (O.faults out.old) (O.faults out.new) result }
     ensures usage { result ≡ Status.Usage → accepted_command N.BITS (map string_bytes words.now) ≡ None }
-    ensures unaccepted { accepted_command N.BITS (map string_bytes words.now) ≡ None → (result ≡ Status.Usage) ⊎ (result ≡ Status.Memory) }
+    ensures unaccepted { accepted_command N.BITS (map string_bytes words.now) ≡ None →
+        (result ≡ Status.Usage) ⊎ (result ≡ Status.Memory) }
     ensures untouched { accepted_command N.BITS (map string_bytes words.now) ≡ None →
         (files.new ≡ files.old) × (out.new ≡ out.old) × (meter.new ≡ meter.old) }
     ensures only_needed { ReadsOnlyNeeded N.BITS (map string_bytes words.now)
         (F.state files.old).told (F.state files.old).reading (F.state files.new).reading }
     ensures silent { result ≡ Status.Done → err.new ≡ err.old }
-    ensures faults { FaultsCome (F.state files.old) (F.state files.new) (O.faults out.old) (O.faults out.new) (ending_of result) }
+    ensures faults { FaultsCome (F.state files.old) (F.state files.new)
+        (O.faults out.old) (O.faults out.new) (ending_of result) }
     ensures misses { MissesCome (F.state files.old) (F.state files.new) result }
     ensures files_kept { Keeps (F.state files.old) (F.state files.new) }
     ensures out_later { O.faults out.old ≤ O.faults out.new }
@@ -176,7 +179,8 @@ fn tell_table(alloc: Global, name: &str, unread: Unread<MtxFault>) -> Unfinished
 
 // Prints a number on a line of its own.
 fn print<N: Number, O: Sink>(out: &mut O, n: N) -> Result<(), Stop>
-    ensures prints { Prints (N.value n) (written (O.told out.old) (O.faults out.old)) (written (O.told out.new) (O.faults out.new)) result }
+    ensures prints { Prints (N.value n)
+        (written (O.told out.old) (O.faults out.old)) (written (O.told out.new) (O.faults out.new)) result }
     ensures later { O.faults out.old ≤ O.faults out.new }
     ensures steady { O.steady out.new ≡ O.steady out.old }
     ensures kept { O.kept out.old out.new }
@@ -188,7 +192,8 @@ fn print<N: Number, O: Sink>(out: &mut O, n: N) -> Result<(), Stop>
 
 // Tells why a command isn't done.
 fn tell<E: Sink>(err: &mut E, unfinished: Unfinished) -> Status
-    ensures tells { Tells unfinished (written (E.told err.old) (E.faults err.old)) (written (E.told err.new) (E.faults err.new)) result }
+    ensures tells { Tells unfinished
+        (written (E.told err.old) (E.faults err.old)) (written (E.told err.new) (E.faults err.new)) result }
     ensures later { E.faults err.old ≤ E.faults err.new }
     ensures steady { E.steady err.new ≡ E.steady err.old }
     ensures kept { E.kept err.old err.new }
@@ -208,7 +213,8 @@ fn tell<E: Sink>(err: &mut E, unfinished: Unfinished) -> Status
 
 // Puts a line on standard error. Where it can't be written, the status stays.
 fn tell_line<E: Sink>(err: &mut E, line: &[u8], status: Status) -> Status
-    ensures tells { TellsLine line.now status (written (E.told err.old) (E.faults err.old)) (written (E.told err.new) (E.faults err.new)) result }
+    ensures tells { TellsLine line.now status
+        (written (E.told err.old) (E.faults err.old)) (written (E.told err.new) (E.faults err.new)) result }
     ensures later { E.faults err.old ≤ E.faults err.new }
     ensures steady { E.steady err.new ≡ E.steady err.old }
     ensures kept { E.kept err.old err.new }

@@ -23,7 +23,8 @@ pub(crate) enum Unfinished {
 impl Unfinished {
     /// A check refuses, as this line tells; or memory is wanting for it.
     pub(crate) fn by_refusal(status: Status, line: Result<Text, Memory>) -> Unfinished
-        ensures { MatchResult line (λ told. result ≡ unfinished.Refused status (Some told)) (λ e. result ≡ unfinished.Memory) }
+        ensures { MatchResult line
+            (λ told. result ≡ unfinished.Refused status (Some told)) (λ e. result ≡ unfinished.Memory) }
     {
         match line {
             Ok(line) => Unfinished::Refused {

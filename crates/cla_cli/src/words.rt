@@ -6,7 +6,8 @@ ghost use Rattle.cla_cli.specs.Words.{RunScript, accepted_command, is_place};
 
 /// The script of the words `run SCRIPT`. All other words are no command.
 pub(crate) fn accepted(words: &[String]) -> Option<&str>
-    ensures { (bits : ℕ) → option_map (λ script. RunScript script.now) result ≡ accepted_command bits (map string_bytes words.now) }
+    ensures { (bits : ℕ) →
+        option_map (λ script. RunScript script.now) result ≡ accepted_command bits (map string_bytes words.now) }
 {
     match words {
         [command, script] => {

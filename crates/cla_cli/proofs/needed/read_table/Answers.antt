@@ -11,7 +11,8 @@ returns-in-Ok-read_mtx-clause-reads g c =
     let new = c.read_mtx.new.input in
     let made = c.in-Ok-new.ensures in
     let few : g.N.Number.BITS ≤ 63 = omega (arith, c.requires.most) in
-    table_read g.N.Number.BITS old.told opened.told opened.reading c.args.name.now c.in-Ok-read_mtx.m c.in-Ok-new.input.taken (ahead_of new.taken (left (g.F.Files.state new.files.now)))
+    table_read g.N.Number.BITS old.told opened.told opened.reading c.args.name.now c.in-Ok-read_mtx.m c.in-Ok-new.input.taken
+    (ahead_of new.taken (left (g.F.Files.state new.files.now)))
     few c.open.ensures.frame.told c.in-Ok.ensures.opens made.nothing_taken (rw made.same at c.in-Ok-read_mtx.ensures.reads)
 
 pub returns-in-Err-Banner-clause-reads : goal.returns-in-Err-Banner-clause-reads
@@ -20,5 +21,7 @@ returns-in-Err-Banner-clause-reads g c =
     let opened = g.F.Files.state c.open.new.files in
     let new = c.read_mtx.new.input in
     let made = c.in-Ok-new.ensures in
-    table_refused g.N.Number.BITS c.in-Err-Banner.line old.told opened.told opened.reading c.args.name.now c.in-Ok-new.input.taken (ahead_of new.taken (left (g.F.Files.state new.files.now)))
-    c.open.ensures.frame.told c.in-Ok.ensures.opens made.nothing_taken (rw (made.same, c.in-Err-Banner.field-0-is) at c.in-Err-Banner.ensures.reads)
+    table_refused g.N.Number.BITS c.in-Err-Banner.line old.told opened.told opened.reading c.args.name.now c.in-Ok-new.input.taken
+    (ahead_of new.taken (left (g.F.Files.state new.files.now)))
+    c.open.ensures.frame.told c.in-Ok.ensures.opens made.nothing_taken
+    (rw (made.same, c.in-Err-Banner.field-0-is) at c.in-Err-Banner.ensures.reads)

@@ -12,8 +12,10 @@ returns-in-Ok-whole-clause-reads g c =
     let new = c.whole.new.self in
     let made = c.in-Ok-new.ensures in
     let read = c.in-Ok-whole.ensures in
-    let short : length c.in-Ok-whole.text.items ≤ script_limit = omega (arith, read.count.0, read.count.1, read.limit, ap (λ (p : Progress). p.limit) made.nothing_taken) in
-    text_read old.told opened.told opened.reading c.args.name.now c.in-Ok-whole.text c.in-Ok-new.input.taken new.taken (ahead_of new.taken (left (g.F.Files.state new.files.now)))
+    let short : length c.in-Ok-whole.text.items ≤ script_limit = omega
+    (arith, read.count.0, read.count.1, read.limit, ap (λ (p : Progress). p.limit) made.nothing_taken) in
+    text_read old.told opened.told opened.reading c.args.name.now c.in-Ok-whole.text c.in-Ok-new.input.taken new.taken
+    (ahead_of new.taken (left (g.F.Files.state new.files.now)))
     c.open.ensures.frame.told c.in-Ok.ensures.opens made.nothing_taken short (rw made.same at read.whole)
 
 pub returns-in-Err-TooLong-clause-reads : goal.returns-in-Err-TooLong-clause-reads
@@ -23,5 +25,7 @@ returns-in-Err-TooLong-clause-reads g c =
     let new = c.whole.new.self in
     let made = c.in-Ok-new.ensures in
     let read = c.in-Err-TooLong.ensures in
-    text_too_long old.told opened.told opened.reading c.args.name.now c.in-Ok-new.input.taken new.taken (ahead_of new.taken (left (g.F.Files.state new.files.now)))
-    c.open.ensures.frame.told c.in-Ok.ensures.opens made.nothing_taken read.limit (rw (made.same, c.in-Err-TooLong.field-0-is) at read.whole)
+    text_too_long old.told opened.told opened.reading c.args.name.now c.in-Ok-new.input.taken new.taken
+    (ahead_of new.taken (left (g.F.Files.state new.files.now)))
+    c.open.ensures.frame.told c.in-Ok.ensures.opens made.nothing_taken read.limit
+    (rw (made.same, c.in-Err-TooLong.field-0-is) at read.whole)

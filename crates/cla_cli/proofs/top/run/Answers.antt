@@ -25,7 +25,8 @@ returns-in_default-clause-completes g c =
     let err : Written = record { told = g.E.Sink.told c.args.err.now; faults = g.E.Sink.faults c.args.err.now } in
     let err' : Written = record { told = g.E.Sink.told c.tell_line.new.err; faults = g.E.Sink.faults c.tell_line.new.err } in
     let none = sym (rw c.in_default.is at (c.accepted.ensures bits)) in
-    completes_by bits words old.told old.told old old out out err err' c.tell_line.result (usage_ends bits words old.told old out err err' c.tell_line.result none c.tell_line.ensures.tells)
+    completes_by bits words old.told old.told old old out out err err' c.tell_line.result
+    (usage_ends bits words old.told old out err err' c.tell_line.result none c.tell_line.ensures.tells)
     (usage_faults old out.faults usage_line err err' c.tell_line.result c.tell_line.ensures.tells)
 
 pub returns-in_default-clause-usage : goal.returns-in_default-clause-usage
@@ -49,7 +50,8 @@ returns-in-Ok-clause-counts g c =
     let bits = g.N.Number.BITS in
     let words = map (string_bytes {Z = Global}) c.args.words.now in
     let accepted = sym (rw c.in-Some.is at (c.accepted.ensures bits)) in
-    done_counts bits words c.in-Some.script.now (g.F.Files.state c.args.files.now).told c.args.meter.now c.run_script.new.meter accepted c.in-Ok.ensures.counts
+    done_counts bits words c.in-Some.script.now (g.F.Files.state c.args.files.now).told c.args.meter.now c.run_script.new.meter accepted
+    c.in-Ok.ensures.counts
 
 pub returns-in-Ok-clause-unaccepted : goal.returns-in-Ok-clause-unaccepted
 returns-in-Ok-clause-unaccepted g c =
@@ -70,7 +72,8 @@ returns-in-Ok-clause-only_needed g c =
     let bits = g.N.Number.BITS in
     let words = map (string_bytes {Z = Global}) c.args.words.now in
     let accepted = sym (rw c.in-Some.is at (c.accepted.ensures bits)) in
-    reads_only_needed bits words c.in-Some.script.now (g.F.Files.state c.args.files.now).told (g.F.Files.state c.args.files.now).reading (g.F.Files.state c.run_script.new.files).reading accepted c.in-Ok.ensures.needed
+    reads_only_needed bits words c.in-Some.script.now (g.F.Files.state c.args.files.now).told (g.F.Files.state c.args.files.now).reading
+    (g.F.Files.state c.run_script.new.files).reading accepted c.in-Ok.ensures.needed
 
 pub returns-in-Err-clause-ends : goal.returns-in-Err-clause-ends
 returns-in-Err-clause-ends g c =
@@ -83,7 +86,8 @@ returns-in-Err-clause-ends g c =
     let out' : Written = record { told = g.O.Sink.told c.run_script.new.out; faults = g.O.Sink.faults c.run_script.new.out } in
     let accepted = sym (rw c.in-Some.is at (c.accepted.ensures bits)) in
     let err' : Written = record { told = g.E.Sink.told c.tell.new.err; faults = g.E.Sink.faults c.tell.new.err } in
-    unfinished_ends bits words c.in-Some.script.now old.told new.told old new out out' err err' c.in-Err.unfinished c.tell.result accepted c.in-Err.ensures.comes c.in-Err.ensures.ending c.tell.ensures.tells
+    unfinished_ends bits words c.in-Some.script.now old.told new.told old new out out' err err' c.in-Err.unfinished c.tell.result
+    accepted c.in-Err.ensures.comes c.in-Err.ensures.ending c.tell.ensures.tells
 
 pub returns-in-Err-clause-counts : goal.returns-in-Err-clause-counts
 returns-in-Err-clause-counts g c =
@@ -96,7 +100,8 @@ returns-in-Err-clause-counts g c =
     let out' : Written = record { told = g.O.Sink.told c.run_script.new.out; faults = g.O.Sink.faults c.run_script.new.out } in
     let accepted = sym (rw c.in-Some.is at (c.accepted.ensures bits)) in
     let err' : Written = record { told = g.E.Sink.told c.tell.new.err; faults = g.E.Sink.faults c.tell.new.err } in
-    unfinished_counts bits words c.in-Some.script.now old.told c.args.meter.now c.run_script.new.meter old new out.faults out'.faults err err' c.in-Err.unfinished c.tell.result accepted c.in-Err.ensures.counts c.in-Err.ensures.ending c.tell.ensures.tells
+    unfinished_counts bits words c.in-Some.script.now old.told c.args.meter.now c.run_script.new.meter old new out.faults out'.faults
+    err err' c.in-Err.unfinished c.tell.result accepted c.in-Err.ensures.counts c.in-Err.ensures.ending c.tell.ensures.tells
 
 pub returns-in-Err-clause-completes : goal.returns-in-Err-clause-completes
 returns-in-Err-clause-completes g c =
@@ -110,8 +115,10 @@ returns-in-Err-clause-completes g c =
     let accepted = sym (rw c.in-Some.is at (c.accepted.ensures bits)) in
     let err' : Written = record { told = g.E.Sink.told c.tell.new.err; faults = g.E.Sink.faults c.tell.new.err } in
     completes_by bits words old.told new.told old new out out' err err' c.tell.result
-    (unfinished_ends bits words c.in-Some.script.now old.told new.told old new out out' err err' c.in-Err.unfinished c.tell.result accepted c.in-Err.ensures.comes c.in-Err.ensures.ending c.tell.ensures.tells)
-    (unfinished_faults old new out.faults out'.faults err err' c.in-Err.unfinished c.tell.result c.in-Err.ensures.ending c.tell.ensures.tells)
+    (unfinished_ends bits words c.in-Some.script.now old.told new.told old new out out' err err' c.in-Err.unfinished c.tell.result
+    accepted c.in-Err.ensures.comes c.in-Err.ensures.ending c.tell.ensures.tells)
+    (unfinished_faults old new out.faults out'.faults err err' c.in-Err.unfinished c.tell.result c.in-Err.ensures.ending
+    c.tell.ensures.tells)
 
 pub returns-in-Err-clause-usage : goal.returns-in-Err-clause-usage
 returns-in-Err-clause-usage g c =
@@ -124,7 +131,8 @@ returns-in-Err-clause-usage g c =
     let out' : Written = record { told = g.O.Sink.told c.run_script.new.out; faults = g.O.Sink.faults c.run_script.new.out } in
     let accepted = sym (rw c.in-Some.is at (c.accepted.ensures bits)) in
     let err' : Written = record { told = g.E.Sink.told c.tell.new.err; faults = g.E.Sink.faults c.tell.new.err } in
-    λ e. absurd (no_usage old new out.faults out'.faults err err' c.in-Err.unfinished c.tell.result c.in-Err.ensures.ending c.tell.ensures.tells e)
+    λ e. absurd (no_usage old new out.faults out'.faults err err' c.in-Err.unfinished c.tell.result c.in-Err.ensures.ending
+    c.tell.ensures.tells e)
 
 pub returns-in-Err-clause-unaccepted : goal.returns-in-Err-clause-unaccepted
 returns-in-Err-clause-unaccepted g c =
@@ -145,4 +153,5 @@ returns-in-Err-clause-only_needed g c =
     let bits = g.N.Number.BITS in
     let words = map (string_bytes {Z = Global}) c.args.words.now in
     let accepted = sym (rw c.in-Some.is at (c.accepted.ensures bits)) in
-    reads_only_needed bits words c.in-Some.script.now (g.F.Files.state c.args.files.now).told (g.F.Files.state c.args.files.now).reading (g.F.Files.state c.run_script.new.files).reading accepted c.in-Err.ensures.needed
+    reads_only_needed bits words c.in-Some.script.now (g.F.Files.state c.args.files.now).told (g.F.Files.state c.args.files.now).reading
+    (g.F.Files.state c.run_script.new.files).reading accepted c.in-Err.ensures.needed
