@@ -1,4 +1,4 @@
-use Rattle.std.proofs.Common.{◌≡◌, ◌≤◌, ◌∙◌, ℕ, List, length, map, take, arith, ap, sym}
+use Rattle.std.proofs.Common.{◌≡◌, ◌≤◌, ◌∙◌, ℕ, List, length, map, take, ap, sym}
 use Rattle.std.proofs.lemmas.List.{length-map, take_all}
 use Rattle.cla_coded.specs.Layouts.{layout_with}
 use Rattle.cla_coded.specs.Outlines.{outline}
