@@ -1,17 +1,15 @@
 -- Rows that are listed by code.
-use Rattle.std.proofs.Common.{◌≡◌, true, false, Bool, Option, Some, None, ℕ, ℤ, pos, zero, suc, ◌+◌, ◌<◌, ◌≤◌, ◌+ℤ◌, List, [], ◌∷◌, ◌++◌, length, map, take, cond, eqb, ltb, refl, ap, subst, sym, ◌∙◌, append_assoc, arith, inl, inr}
-use Rattle.std.specs.Prelude.{not, ◌&&◌}
-use Rattle.std.specs.List.{filter, range_with_len, list_any, count_by, position_or_len}
-use Rattle.std.proofs.lemmas.Bool.{cases_Bool, cases_lt, cases_eq, eqb-true, eq-eqb, ne_eqb, lt-ltb, le-ltb, both_ways, or_from, and_from, and_left, and_right}
-use Rattle.std.proofs.lemmas.List.{ext_get_or, map-id, append-nil, length_push, get_or_push, get_or_append_left, length-append, map-append, take_all}
+use Rattle.std.proofs.Common.{◌≡◌, true, false, Bool, ℕ, ℤ, pos, zero, suc, ◌+◌, ◌<◌, ◌≤◌, ◌+ℤ◌, List, [], ◌∷◌, ◌++◌, length, map, take, cond, eqb, refl, ap, subst, sym, ◌∙◌, append_assoc, arith, inl, inr}
+use Rattle.std.specs.List.{filter, range_with_len, list_any, count_by}
+use Rattle.std.proofs.lemmas.Bool.{cases_Bool, cases_lt, cases_eq, eq-eqb, ne_eqb, both_ways, or_from}
+use Rattle.std.proofs.lemmas.List.{map-id, append-nil, length_push, get_or_push, get_or_append_left, length-append, map-append, take_all}
 use Rattle.std.proofs.lemmas.List.Folds.{list_any_at}
-use Rattle.std.proofs.lemmas.List.FromFn.{length-range_with_len, get_or-range_with_len, length-map-range_with_len, get_or-map-range_with_len, filter_of_map_range_with_len_more}
-use Rattle.std.proofs.lemmas.List.Sums.{count_by_more_yes, count_by_more_no, position_or_len_is, fails_before_first}
+use Rattle.std.proofs.lemmas.List.FromFn.{filter_of_map_range_with_len_more}
+use Rattle.std.proofs.lemmas.List.Sums.{count_by_more_yes, count_by_more_no}
 use Rattle.cla_spec.specs.Numbers.{sum_to}
 use Rattle.cla_spec.proofs.Sums.{plus_zero, sum_to-same}
-use Rattle.cla_group.specs.Groups.{at, code_of, occurrences_of, first_row_of, gathered}
+use Rattle.cla_group.specs.Groups.{code_of, occurrences_of}
 use Rattle.cla_group.specs.Listed.{rows_where, rows_of}
-use Rattle.cla_group.proofs.Regroup.{first_row_there, code_of_first_row}
 
 -- one more row
 pub rows_where_more : (test : ℕ → Bool) (n : ℕ) → rows_where test (n + 1) ≡ rows_where test n ++ cond (test n) (n ∷ []) []
@@ -190,5 +188,3 @@ sum_where f test (suc n) =
           ap (sum_over f) (rows_where_no test n fails) ∙ so_far ∙ plus_zero (sum_to (λ i. cond (test i) (f i) (pos 0)) n)
           ∙ ap (λ (b : Bool). sum_to (λ i. cond (test i) (f i) (pos 0)) n +ℤ cond b (f n) (pos 0)) (sym fails)
     ]
-
-

@@ -1,15 +1,12 @@
 -- New codes for the rows that are kept.
-use Rattle.std.proofs.Common.{◌≡◌, Bool, ℕ, ℤ, pos, zero, suc, ◌+◌, ◌*◌, ◌<◌, ◌≤◌, List, [], ◌∷◌, ◌++◌, length, map, set, take, drop, replicate, cond, eqb, refl, ap, sym, ◌∙◌, arith, inl, inr}
+use Rattle.std.proofs.Common.{◌≡◌, Bool, ℕ, ℤ, pos, ◌+◌, ◌*◌, ◌<◌, ◌≤◌, List, [], ◌∷◌, ◌++◌, length, map, set, take, drop, cond, eqb, refl, ap, sym, ◌∙◌, arith, inl, inr}
 use Rattle.std.proofs.lemmas.Bool.{cases_eq, cases_lt, eq-eqb, ne_eqb}
-use Rattle.std.proofs.lemmas.List.{get_or-set_same, get_or-set_other, length-set, length_push, get_or_push, get_or_append_left, get_or-append-add, length-replicate, get_or-replicate, length-map, length-drop, length-take-le, get_or-take, get_or-drop, take-map, drop-map}
+use Rattle.std.proofs.lemmas.List.{get_or-set_same, get_or-set_other, length-set, length_push, get_or_push, get_or_append_left, get_or-append-add, length-map, length-drop, length-take-le, get_or-take, get_or-drop, take-map, drop-map}
 use Rattle.std.proofs.lemmas.List.Folds.{position_or_len_push}
-use Rattle.std.proofs.lemmas.List.Sums.{position_or_len_is, sum_by-cons, sum_by_push, sum_by-set, get_or-le-sum_by}
-use Rattle.cla_spec.specs.Matrix.{most_cells}
+use Rattle.std.proofs.lemmas.List.Sums.{position_or_len_is, sum_by_push, sum_by-set, get_or-le-sum_by}
 use Rattle.cla_group.specs.Groups.{at, code_of, occurrences_of, first_row_of}
-use Rattle.cla_group.specs.Tuples.{tuples_of, AreCodes}
-use Rattle.cla_group.specs.Rows.{AreRowsFrom}
-use Rattle.cla_group.specs.Renaming.{AreRenamed, AreNames, IsName, AreInOrder}
-use Rattle.cla_group.proofs.Tuples.{tuple_value, place_within}
+use Rattle.cla_group.specs.Renaming.{AreNames, IsName}
+use Rattle.cla_group.proofs.Tuples.{place_within}
 
 -- 1 where a code is this one
 abbrev one_if : ℕ → ℕ → ℕ
@@ -158,4 +155,3 @@ in_order_more width i order values kept piece count is so_far k c there place = 
       let within : k * width + c < length kept = rw count (place_within width i k c before place) in
       get_or_append_left kept piece (pos 0) (k * width + c) within ∙ so_far k c before place
 ]
-

@@ -1,9 +1,8 @@
 -- The rest of the tuples of a group.
-use Rattle.std.proofs.Common.{◌≡◌, true, false, Some, None, ℕ, ℤ, pos, ◌+◌, ◌*◌, ◌<◌, ◌≤◌, List, [], length, map, take, drop, Bool, cond, ltb, refl, ap, sym, ◌∙◌, arith}
+use Rattle.std.proofs.Common.{◌≡◌, true, false, Some, None, ℕ, ℤ, pos, ◌+◌, ◌*◌, ◌<◌, ◌≤◌, List, [], length, map, take, drop, cond, ltb, ap, sym, ◌∙◌, arith}
 use Rattle.std.specs.List.{position_or_len}
-use Rattle.std.specs.Option.{ForSome}
 use Rattle.std.specs.Ordering.{int_eq}
-use Rattle.std.proofs.lemmas.Bool.{lt-ltb, le-ltb, ltb-true, both_ways, false_from_ne_true}
+use Rattle.std.proofs.lemmas.Bool.{lt-ltb, le-ltb, both_ways, false_from_ne_true}
 use Rattle.std.proofs.lemmas.Bool.Decides.{Decides-int_eq}
 use Rattle.std.proofs.lemmas.List.{ext_get_or, length-map, length-take-le, length-drop}
 use Rattle.std.proofs.lemmas.List.Elements.{All-from_get_or}
@@ -65,4 +64,3 @@ rest_missed codes width n values others =
     (λ j before. (let there : j < n = omega (arith, before, count) in ap is_zero (tuple_is width n values j there) ∙ others j there))
     (λ there. absurd (omega (arith, there))) in
     sym (ap (λ (j : ℕ). cond (ltb j (length tuples)) (Some j) None) place ∙ ap (λ (b : _). cond b (Some (length tuples)) None) (le-ltb (length tuples) (length tuples) (omega arith)))
-
