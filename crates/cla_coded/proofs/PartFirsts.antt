@@ -5,7 +5,8 @@ use Rattle.cla_group.specs.Groups.{code_of, value_of, cell_of, first_row_of}
 use Rattle.cla_group.proofs.Regroup.{first_row_there, code_of_first_row, first_row_least}
 use Rattle.cla_coded.specs.Layouts.{LayoutPart, Layout, IsWhole, no_part, part_at, column_at, index_of, entry_in}
 use Rattle.cla_coded.specs.Firsts.{IsFirstOf, least_of, IsFirstFault, earliest_fault, IsExtremeEntry}
-use Rattle.cla_coded.proofs.Leasts.{IsLeast, least_same, OfAny, least_of_all, alone, all_alone, least_alone, length-all_alone, get_or-all_alone}
+use Rattle.cla_coded.proofs.Leasts.{IsLeast, least_same, OfAny, least_of_all, alone, all_alone, least_alone, length-all_alone}
+use Rattle.cla_coded.proofs.Leasts.{get_or-all_alone}
 use Rattle.cla_coded.specs.Laws.{first_cell, IsFirstFaultOfPart, IsExtremeOfParts}
 use Rattle.cla_coded.proofs.Wholes.{some_part, entry_of_part, own_column, own_column_within}
 use Rattle.cla_coded.proofs.Matrices.{column_there}

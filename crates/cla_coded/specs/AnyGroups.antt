@@ -28,9 +28,13 @@ pub record FormOf : Type 0 where
 abbrev pub least_code_bytes : ℕ → ℕ
 least_code_bytes tuples = if nat_le tuples (2 ^ 8) then 1 else if nat_le tuples (2 ^ 16) then 2 else 4
 
+-- how a plain group is kept
+abbrev pub plain_form : FormOf
+plain_form = record { kind = kind.Plain; code_bytes = 0; rest = None }
+
 -- how a group of this kind is kept when it is made of these codes and tuples
 abbrev pub form_of : Kind → List ℕ → List (List ℤ) → FormOf
-form_of kind.Plain codes tuples = record { kind = kind.Plain; code_bytes = 0; rest = None }
+form_of kind.Plain codes tuples = plain_form
 form_of kind.Codes codes tuples = record { kind = kind.Codes; code_bytes = least_code_bytes (length tuples); rest = None }
 form_of kind.Offsets codes tuples = record { kind = kind.Offsets; code_bytes = 0; rest = rest_of codes tuples }
 form_of kind.Runs codes tuples = record { kind = kind.Runs; code_bytes = 0; rest = rest_of codes tuples }
@@ -65,7 +69,7 @@ module _ {N : Type 0} {n : number.Ghosts N} {o : ord.Ghosts N} {e : partial_eq.G
   any_dictionary (Runs g) = runs_dictionary g
 
   abbrev pub any_form : AnyGroup N n o e p h → FormOf
-  any_form (Plain g) = record { kind = kind.Plain; code_bytes = 0; rest = None }
+  any_form (Plain g) = plain_form
   any_form (Codes1 g) = record { kind = kind.Codes; code_bytes = 1; rest = None }
   any_form (Codes2 g) = record { kind = kind.Codes; code_bytes = 2; rest = None }
   any_form (Codes4 g) = record { kind = kind.Codes; code_bytes = 4; rest = None }

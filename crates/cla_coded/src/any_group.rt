@@ -194,7 +194,8 @@ impl<N: Number> Owned<N> for AnyGroup<N> {
             let tuples = any_dictionary self.now in
             IfOk result (λ g. AreRowsFrom a (b - a) width codes tuples (any_codes g) (any_dictionary g)) }
         ensures numbered { IfOk result (λ g. AreNumbered (any_codes g) (length (any_dictionary g))) }
-        ensures form { IfOk result (λ g. any_form g ≡ form_cut (any_form self.now) (any_codes g) (any_dictionary g)) }
+        ensures form { let form = any_form self.now in
+            IfOk result (λ g. any_form g ≡ form_cut form (any_codes g) (any_dictionary g)) }
     {
         same_kind!(self, group => group.slice_rows(alloc, a, b))
     }
@@ -203,7 +204,8 @@ impl<N: Number> Owned<N> for AnyGroup<N> {
         requires places { ArePlaces (any_columns self.now) places.now }
         ensures columns { IfOk result (λ g. any_columns g ≡ length places.now) }
         ensures codes { IfOk result (λ g. any_codes g ≡ any_codes self.now) }
-        ensures dictionary { IfOk result (λ g. any_dictionary g ≡ map (projected places.now) (any_dictionary self.now)) }
+        ensures dictionary { let tuples = map (projected places.now) (any_dictionary self.now) in
+            IfOk result (λ g. any_dictionary g ≡ tuples) }
         ensures form { IfOk result (λ g. any_form g ≡ any_form self.now) }
     {
         same_kind!(self, group => group.project(alloc, places))

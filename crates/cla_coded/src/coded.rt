@@ -1,8 +1,8 @@
 //! Tables of groups of any kind: from dense matrices, and copies.
 
-ghost use Rattle.std.specs.Prelude.{◌≡◌, ◌∷◌, [], None, false, length, IfOk};
+ghost use Rattle.std.specs.Prelude.{◌≡◌, ◌∷◌, [], false, length, IfOk};
 ghost use Rattle.std.specs.List.{range_with_len};
-ghost use Rattle.cla_coded.specs.AnyGroups.{any_columns, any_codes, any_dictionary, any_form};
+ghost use Rattle.cla_coded.specs.AnyGroups.{any_columns, any_codes, any_dictionary, any_form, plain_form};
 ghost use Rattle.cla_coded.specs.Forms.{forms_of};
 ghost use Rattle.cla_coded.specs.Layouts.{loose_layout};
 ghost use Rattle.cla_coded.specs.Outlines.{outline};
@@ -12,7 +12,7 @@ ghost use Rattle.cla_coded.specs.Tables.{layout_of};
 use crate::any_group::AnyGroup;
 use crate::part::Part;
 use crate::table::Table;
-use cla_group::{Group, Kind, Owned};
+use cla_group::{Group, Owned};
 use cla_num::{Dense, Memory, Number};
 use cla_plain::Plain;
 use std::alloc::Global;
@@ -25,7 +25,7 @@ pub type Coded<N> = Table<N, AnyGroup<N>>;
 pub fn loose<N: Number>(alloc: Global, m: Dense<N>) -> Result<Coded<N>, Memory>
     ensures layout { IfOk result (λ t. layout_of any_codes any_dictionary t ≡ loose_layout m) }
     ensures flipped { IfOk result (λ t. t.flipped ≡ false) }
-    ensures forms { IfOk result (λ t. forms_of t ≡ record { kind = Kind.Plain; code_bytes = 0; rest = None } ∷ []) }
+    ensures forms { IfOk result (λ t. forms_of t ≡ plain_form ∷ []) }
 {
     let rows = m.rows();
     let cols = m.cols();
@@ -41,7 +41,8 @@ pub fn loose<N: Number>(alloc: Global, m: Dense<N>) -> Result<Coded<N>, Memory>
 /// A table of equal groups, each kept as it was, which stands for the same matrix. It costs a copy of the
 /// dictionaries; what belongs to the rows is shared.
 pub fn copy<N: Number>(alloc: Global, m: &Coded<N>) -> Result<Coded<N>, Memory>
-    ensures layout { IfOk result (λ t. layout_of any_codes any_dictionary t ≡ layout_of any_codes any_dictionary m.now) }
+    ensures layout { let layout = layout_of any_codes any_dictionary m.now in
+        IfOk result (λ t. layout_of any_codes any_dictionary t ≡ layout) }
     ensures flipped { IfOk result (λ t. t.flipped ≡ m.now.flipped) }
     ensures forms { IfOk result (λ t. forms_of t ≡ forms_of m.now) }
 {
@@ -58,7 +59,8 @@ fn copy_part<N: Number>(
     part: &Part<AnyGroup<N>>,
 ) -> Result<Part<AnyGroup<N>>, Memory>
     ensures outline { IfOk result (λ p. outline any_columns any_codes p ≡ outline any_columns any_codes part.now) }
-    ensures part { IfOk result (λ p. part_of any_codes any_dictionary p ≡ part_of any_codes any_dictionary part.now) }
+    ensures part { let old = part_of any_codes any_dictionary part.now in
+        IfOk result (λ p. part_of any_codes any_dictionary p ≡ old) }
     ensures form { IfOk result (λ p. any_form p.group ≡ any_form part.now.group) }
 {
     let columns = Vec::from_slice(alloc, &part.columns)?;

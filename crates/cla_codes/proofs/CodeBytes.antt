@@ -20,13 +20,15 @@ codes_count w bytes rows = length-map-range_with_len (λ i. number_at w bytes (i
 pub written_read : (w : ℕ) (codes bytes : List ℕ) → AreWritten w (length codes) codes bytes → codes_in w bytes (length codes) ≡ codes
 written_read w codes bytes are =
     ext_get_or 0 (codes_in w bytes (length codes)) codes (codes_count w bytes (length codes))
-    (λ i lt. (let row : i < length codes = rw (codes_count w bytes (length codes)) at lt in code_in w bytes (length codes) i row ∙ are.each i row))
+    (λ i lt. (let row : i < length codes = rw (codes_count w bytes (length codes)) at lt in code_in w bytes (length codes) i row
+    ∙ are.each i row))
 
 pub fits_fewer : (bytes tuples fewer : ℕ) → FitsWidth bytes tuples → fewer ≤ tuples → FitsWidth bytes fewer
 fits_fewer bytes tuples fewer fits less = record { width = fits.width; few = omega (arith, fits.few, less) }
 
 -- the bytes of kept codes are theirs
-pub kept_written : (w : ℕ) (bytes : List ℕ) (rows : ℕ) → length bytes ≡ rows * w → AreWritten w (length (codes_in w bytes rows)) (codes_in w bytes rows) bytes
+pub kept_written : (w : ℕ) (bytes : List ℕ) (rows : ℕ) → length bytes ≡ rows * w
+    → AreWritten w (length (codes_in w bytes rows)) (codes_in w bytes rows) bytes
 kept_written w bytes rows size = record {
   size = rw (codes_count w bytes rows) size;
   each = λ i row. sym (code_in w bytes rows i (rw (codes_count w bytes rows) at row));
@@ -40,10 +42,13 @@ bytes_within w rows i size row all = omega (arith, all, mul-le-mul_right {m = i 
 pub used_below : (codes : List ℕ) (n k : ℕ) → ((i : ℕ) → i < length codes → code_of codes i < n) → 0 < occurrences_of codes k → k < n
 used_below codes n k below used = omega (arith, below _ (first_row_there codes k used), code_of_first_row codes k used)
 
-pub kept_codes : (w tuples : ℕ) (codes bytes counts first_rows : List ℕ) → FitsWidth w tuples → length codes ≤ most_cells → ((i : ℕ) → i < length codes → code_of codes i < tuples) →
-    AreWritten w (length codes) codes bytes → AreCounted codes tuples counts first_rows → AreKept w (length codes) (codes_in w bytes (length codes)) bytes counts first_rows
+pub kept_codes : (w tuples : ℕ) (codes bytes counts first_rows : List ℕ) → FitsWidth w tuples → length codes ≤ most_cells
+    → ((i : ℕ) → i < length codes → code_of codes i < tuples) →
+    AreWritten w (length codes) codes bytes → AreCounted codes tuples counts first_rows → AreKept w (length codes)
+    (codes_in w bytes (length codes)) bytes counts first_rows
 kept_codes w tuples codes bytes counts first_rows fits few below written are =
-    let counted : AreCounted codes (length counts) counts first_rows = subst (λ (n : ℕ). AreCounted codes n counts first_rows) (sym are.a_count_each) are in
+    let counted : AreCounted codes (length counts) counts first_rows =
+    subst (λ (n : ℕ). AreCounted codes n counts first_rows) (sym are.a_count_each) are in
     let all_below : (i : ℕ) → i < length codes → code_of codes i < length counts = (λ i row. rw are.a_count_each (below i row)) in
     let kept : AreKept w (length codes) codes bytes counts first_rows = record {
       width = fits.width;

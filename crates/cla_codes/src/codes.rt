@@ -39,7 +39,8 @@ impl<N: Number, const W: usize> Codes<N, W> {
         requires fits { FitsWidth W (length values.items / width) }
         ensures columns { IfOk result (λ g. ⟦<Codes<N, W> as Group<N>>⟧.columns g ≡ width) }
         ensures codes { IfOk result (λ g. ⟦<Codes<N, W> as Group<N>>⟧.codes g ≡ codes.now) }
-        ensures dictionary { IfOk result (λ g. ⟦<Codes<N, W> as Group<N>>⟧.dictionary g ≡ tuples_of width (length values.items / width) (map N.value values.items)) }
+        ensures dictionary { let tuples = tuples_of width (length values.items / width) (map N.value values.items) in
+            IfOk result (λ g. ⟦<Codes<N, W> as Group<N>>⟧.dictionary g ≡ tuples) }
     {
         let tuples = (values.len() / width as usize) as u32;
         Codes::of_codes(alloc, Dictionary::new(width, tuples, values), codes)
@@ -66,7 +67,8 @@ impl<N: Number, const W: usize> Codes<N, W> {
     /// The codes of the rows one after the other, each in W bytes, the least byte first. It takes no
     /// memory.
     pub fn bytes(&self) -> &[u8]
-        ensures { let codes = ⟦<Codes<N, W> as Group<N>>⟧.codes self.now in AreWritten W (length codes) codes result.now }
+        ensures { let codes = ⟦<Codes<N, W> as Group<N>>⟧.codes self.now in
+            AreWritten W (length codes) codes result.now }
     {
         self.rows.bytes()
     }
@@ -133,7 +135,9 @@ impl<N: Number, const W: usize> Owned<N> for Codes<N, W> {
         requires whole { length values.items ≡ length self.now.dictionary.tuples * self.now.dictionary.width }
         ensures columns { IfOk result (λ g. g.dictionary.width ≡ self.now.dictionary.width) }
         ensures codes { IfOk result (λ g. g.rows.value ≡ self.now.rows.value) }
-        ensures dictionary { IfOk result (λ g. g.dictionary.tuples ≡ tuples_of self.now.dictionary.width (length self.now.dictionary.tuples) (map N.value values.items)) }
+        ensures dictionary { let old = self.now.dictionary in
+            let tuples = tuples_of old.width (length old.tuples) (map N.value values.items) in
+            IfOk result (λ g. g.dictionary.tuples ≡ tuples) }
     {
         Ok(Codes {
             dictionary: self.dictionary.with_values(values),

@@ -22,7 +22,9 @@ pub row_between : (a b : ℕ) (codes : List ℕ) (i : ℕ) → i < b - a → cod
 row_between a b codes i row = get_or-take (b - a) (drop a codes) i 0 row ∙ get_or-drop a codes i 0
 
 -- a value that is read is that of the dictionary
-pub value_read : {N : Type 0} (value : N → ℤ) (width n : ℕ) (values : List N) (k c : ℕ) (x : N) → length values ≡ n * width → k < n → c < width → x ≡ get_or values (k * width + c) x → value x ≡ value_of (tuples_of width n (map value values)) k c
+pub value_read : {N : Type 0} (value : N → ℤ) (width n : ℕ) (values : List N) (k c : ℕ) (x : N) → length values ≡ n * width → k < n
+    → c < width → x ≡ get_or values (k * width + c) x → value x ≡ value_of (tuples_of width n (map value values)) k c
 value_read value width n values k c x whole tuple place is =
     let there : k * width + c < length values = rw whole (place_within width n k c tuple place) in
-    ap value is ∙ sym (get_or-map value values (k * width + c) x (pos 0) there) ∙ sym (tuple_value width n (map value values) k c tuple place)
+    ap value is ∙ sym (get_or-map value values (k * width + c) x (pos 0) there)
+    ∙ sym (tuple_value width n (map value values) k c tuple place)

@@ -1,5 +1,6 @@
 -- Groups whose rows are their tuples: row i has code i.
-use Rattle.std.proofs.Common.{◌≡◌, true, false, ℕ, ℤ, zero, suc, ◌+◌, ◌<◌, ◌≤◌, List, length, map, take, eqb, refl, ap, sym, ◌∙◌, arith, inl, inr}
+use Rattle.std.proofs.Common.{◌≡◌, true, false, ℕ, ℤ, zero, suc, ◌+◌, ◌<◌, ◌≤◌, List, length, map, take, eqb, refl, ap, sym, ◌∙◌, arith}
+use Rattle.std.proofs.Common.{inl, inr}
 use Rattle.std.specs.List.{range_with_len, count_by}
 use Rattle.std.proofs.lemmas.Bool.{cases_eq, eq-eqb, ne_eqb}
 use Rattle.std.proofs.lemmas.List.{take_all}
@@ -35,7 +36,8 @@ counted_before n k (suc i) within before =
     let next : suc i ≡ i + 1 = omega arith in
     let there : i < n = omega (arith, within) in
     ap (counted n k) next
-    ∙ count_by_more_no (λ code. eqb code k) (range_with_len 0 n) i 0 (rw (rows_count n) there) (is_other n i k there (λ same. absurd (omega (arith, same, before))))
+    ∙ count_by_more_no (λ code. eqb code k) (range_with_len 0 n) i 0 (rw (rows_count n) there)
+    (is_other n i k there (λ same. absurd (omega (arith, same, before))))
     ∙ counted_before n k i (omega (arith, within)) (omega (arith, before))
 
 counted_after : (n k i : ℕ) → i ≤ n → k < i → counted n k i ≡ 1
@@ -68,7 +70,8 @@ first_row_is n k there =
     (λ _. is_code n k k there refl)
 
 -- the codes 0, 1, .. are those of rows whose values stand row by row
-pub counting_codes : {X : Type 0} (width rows : ℕ) (values : List X) → IsShaped rows width values → AreCodes width rows (range_with_len 0 rows) (length values)
+pub counting_codes : {X : Type 0} (width rows : ℕ) (values : List X) → IsShaped rows width values
+    → AreCodes width rows (range_with_len 0 rows) (length values)
 counting_codes width rows values shaped = record {
   a_row = rw (rows_count rows) shaped.a_row;
   a_column = shaped.a_col;
@@ -79,6 +82,7 @@ counting_codes width rows values shaped = record {
 }
 
 -- the law of a group whose row i has code i
-pub plain_group : {N : Type 0} (bits : ℕ) (value : N → ℤ) → ((x : N) → InRange bits (value x)) → (width rows : ℕ) (values : List N) → IsShaped rows width values → IsGroup bits width (range_with_len 0 rows) (tuples_of width rows (map value values))
+pub plain_group : {N : Type 0} (bits : ℕ) (value : N → ℤ) → ((x : N) → InRange bits (value x)) → (width rows : ℕ) (values : List N)
+    → IsShaped rows width values → IsGroup bits width (range_with_len 0 rows) (tuples_of width rows (map value values))
 plain_group bits value in_range width rows values shaped =
     group_with_values bits value in_range width rows (range_with_len 0 rows) values (counting_codes width rows values shaped)

@@ -1,5 +1,6 @@
 -- Counts of rows, and first rows.
-use Rattle.std.proofs.Common.{◌≡◌, Bool, not, ℕ, zero, suc, ◌+◌, ◌<◌, ◌≤◌, List, [], ◌∷◌, length, drop, set, cond, eqb, ltb, refl, ap, sym, ◌∙◌, arith, inl, inr}
+use Rattle.std.proofs.Common.{◌≡◌, Bool, not, ℕ, zero, suc, ◌+◌, ◌<◌, ◌≤◌, List, [], ◌∷◌, length, drop, set, cond, eqb, ltb, refl, ap}
+use Rattle.std.proofs.Common.{sym, ◌∙◌, arith, inl, inr}
 use Rattle.std.proofs.lemmas.Bool.{cases_eq, eq-eqb, ne_eqb}
 use Rattle.std.proofs.lemmas.Bool.Decides.{nat_tests}
 use Rattle.std.specs.List.{count_by}
@@ -26,13 +27,15 @@ below_or_here : (code n : ℕ) → below_if (suc n) code ≡ below_if n code + o
 below_or_here code n = grind (arith, nat_tests)
 
 -- what the row before has to do with each code
-count_more : (i : ℕ) (codes : List ℕ) (k : ℕ) → i < length codes → occurrences_of (drop i codes) k ≡ one_if k (code_of codes i) + occurrences_of (drop (i + 1) codes) k
+count_more : (i : ℕ) (codes : List ℕ) (k : ℕ) → i < length codes
+    → occurrences_of (drop i codes) k ≡ one_if k (code_of codes i) + occurrences_of (drop (i + 1) codes) k
 count_more i codes k row = sum_by-drop_more (one_if k) codes i 0 row
 
 first_here : (i : ℕ) (codes : List ℕ) (k : ℕ) → i < length codes → code_of codes i ≡ k → first_row_of (drop i codes) k ≡ 0
 first_here i codes k row same = prefix_len-drop_no (λ code. not (eqb code k)) codes i 0 row (ap not (eq-eqb (code_of codes i) k same))
 
-first_later : (i : ℕ) (codes : List ℕ) (k : ℕ) → i < length codes → (code_of codes i ≡ k → ⊥) → first_row_of (drop i codes) k ≡ 1 + first_row_of (drop (i + 1) codes) k
+first_later : (i : ℕ) (codes : List ℕ) (k : ℕ) → i < length codes → (code_of codes i ≡ k → ⊥)
+    → first_row_of (drop i codes) k ≡ 1 + first_row_of (drop (i + 1) codes) k
 first_later i codes k row other = prefix_len-drop_yes (λ code. not (eqb code k)) codes i 0 row (ap not (ne_eqb (code_of codes i) k other))
 
 -- a count fits where the number of rows does
@@ -40,8 +43,10 @@ pub count_size : (i : ℕ) (codes : List ℕ) (k : ℕ) → occurrences_of (drop
 count_size i codes k = omega (arith, count_by-le-length (λ code. eqb code k) (drop i codes), length-drop i codes)
 
 -- the row before is counted
-pub counted_more : (i : ℕ) (codes : List ℕ) (tuples : ℕ) (counts first_rows : List ℕ) (code : ℕ) → i < length codes → code ≡ code_of codes i → code < tuples →
-    AreCountedFrom (i + 1) codes tuples counts first_rows → AreCountedFrom i codes tuples (set counts code (code_of counts code + 1)) (set first_rows code i)
+pub counted_more : (i : ℕ) (codes : List ℕ) (tuples : ℕ) (counts first_rows : List ℕ) (code : ℕ) → i < length codes
+    → code ≡ code_of codes i → code < tuples →
+    AreCountedFrom (i + 1) codes tuples counts first_rows → AreCountedFrom i codes tuples (set counts code (code_of counts code + 1))
+    (set first_rows code i)
 counted_more i codes tuples counts first_rows code row is below are = record {
   a_count_each = length-set counts code (code_of counts code + 1) ∙ are.a_count_each;
   a_row_each = length-set first_rows code i ∙ are.a_row_each;
@@ -52,7 +57,8 @@ counted_more i codes tuples counts first_rows code row is below are = record {
         ∙ get_or-set_same counts code (code_of counts code + 1) 0 (omega (arith, below, are.a_count_each))
         ∙ omega (arith, on, count_more i codes k row, are.count k there, ap (code_of counts) same)
     | inr other ↦
-        let off : one_if k (code_of codes i) ≡ 0 = ap (λ (b : Bool). cond b 1 0) (ne_eqb (code_of codes i) k (λ same. other (sym same ∙ sym is))) in
+        let off : one_if k (code_of codes i) ≡ 0 =
+        ap (λ (b : Bool). cond b 1 0) (ne_eqb (code_of codes i) k (λ same. other (sym same ∙ sym is))) in
         get_or-set_other counts code k (code_of counts code + 1) 0 other
         ∙ omega (arith, off, count_more i codes k row, are.count k there)
   ];
@@ -68,15 +74,28 @@ counted_more i codes tuples counts first_rows code row is below are = record {
 }
 
 -- one more code
-below_more : (codes : List ℕ) (n : ℕ) → count_by (λ code. ltb code (suc n)) codes ≡ count_by (λ code. ltb code n) codes + occurrences_of codes n
+below_more : (codes : List ℕ) (n : ℕ)
+    → count_by (λ code. ltb code (suc n)) codes ≡ count_by (λ code. ltb code n) codes + occurrences_of codes n
 below_more [] n = refl
 below_more (code ∷ codes) n =
     let first : below_if (suc n) code ≡ below_if n code + one_if n code = below_or_here code n in
-    omega (arith, sum_by-cons (below_if (suc n)) code codes, sum_by-cons (below_if n) code codes, sum_by-cons (one_if n) code codes, first, below_more codes n)
+    omega (
+      arith,
+      sum_by-cons (below_if (suc n)) code codes,
+      sum_by-cons (below_if n) code codes,
+      sum_by-cons (one_if n) code codes,
+      first,
+      below_more codes n,
+    )
 
 used_below : (codes : List ℕ) (n : ℕ) → ((k : ℕ) → k < n → 0 < occurrences_of codes k) → n ≤ count_by (λ code. ltb code n) codes
 used_below codes zero used = omega arith
-used_below codes (suc n) used = omega (arith, used_below codes n (λ k there. used k (omega (arith, there))), used n (omega arith), below_more codes n)
+used_below codes (suc n) used = omega (
+  arith,
+  used_below codes n (λ k there. used k (omega (arith, there))),
+  used n (omega arith),
+  below_more codes n,
+)
 
 -- where each tuple has a row, there are no more tuples than rows
 pub used_few : (codes : List ℕ) (n : ℕ) → ((k : ℕ) → k < n → 0 < occurrences_of codes k) → n ≤ length codes

@@ -12,7 +12,8 @@ use Rattle.cla_group.proofs.Projections.{stretch_item}
 use Rattle.cla_group.proofs.Tuples.{tuples_count, tuple_is, tuple_width, tuple_value, place_within, item_holds}
 use Rattle.cla_group.specs.Dictionaries.{AreTuples, AreValues, in_order}
 
-pub tuples_are : {N : Type 0} (bits : ℕ) (value : N → ℤ) → ((x : N) → InRange bits (value x)) → (width n : ℕ) (values : List N) → AreValues width n (length values) → AreTuples bits width (tuples_of width n (map value values))
+pub tuples_are : {N : Type 0} (bits : ℕ) (value : N → ℤ) → ((x : N) → InRange bits (value x)) → (width n : ℕ) (values : List N)
+    → AreValues width n (length values) → AreTuples bits width (tuples_of width n (map value values))
 tuples_are bits value in_range width n values are =
     let count : length (tuples_of width n (map value values)) ≡ n = tuples_count width n (map value values) in
     record {
@@ -22,21 +23,25 @@ tuples_are bits value in_range width n values are =
       full = λ k there. tuple_width width n (map value values) k (rw count at there);
       small = λ k c there place.
           (let k_there : k < n = rw count at there in
-          rw (tuple_value width n (map value values) k c k_there place) (item_holds value (InRange bits) in_range values (k * width + c) (rw are.whole (place_within width n k c k_there place))));
+          rw (tuple_value width n (map value values) k c k_there place)
+          (item_holds value (InRange bits) in_range values (k * width + c) (rw are.whole (place_within width n k c k_there place))));
     }
 
 pub values_narrow : (width n values : ℕ) → AreValues width n values → width ≤ most_cells
 values_narrow width n values are = omega (arith, are.whole, are.few, mul-le-mul_right {m = 1} {n = n} width are.a_tuple)
 
-tuple_same : (width : ℕ) (new old : List ℤ) (k j : ℕ) → ((c : ℕ) → c < width → at new (k * width + c) ≡ at old (j * width + c)) → tuple_at width new k ≡ tuple_at width old j
+tuple_same : (width : ℕ) (new old : List ℤ) (k j : ℕ) → ((c : ℕ) → c < width → at new (k * width + c) ≡ at old (j * width + c))
+    → tuple_at width new k ≡ tuple_at width old j
 tuple_same width new old k j same =
     ext_get_or (pos 0) (tuple_at width new k) (tuple_at width old j)
-    (length-map-range_with_len (λ c. at new (k * width + c)) 0 width ∙ sym (length-map-range_with_len (λ c. at old (j * width + c)) 0 width))
+    (length-map-range_with_len (λ c. at new (k * width + c)) 0 width ∙ sym
+    (length-map-range_with_len (λ c. at old (j * width + c)) 0 width))
     (λ c lt. (let there : c < width = rw (length-map-range_with_len (λ c. at new (k * width + c)) 0 width) at lt in
     get_or-map-range_with_len (λ c. at new (k * width + c)) 0 width c c (pos 0) there (omega arith) ∙ same c there
     ∙ sym (get_or-map-range_with_len (λ c. at old (j * width + c)) 0 width c c (pos 0) there (omega arith))))
 
-pub in_order_tuples : (width n : ℕ) (order : List ℕ) (old new : List ℤ) → ((k : ℕ) → k < length order → code_of order k < n) → AreInOrder width order old new → tuples_of width (length order) new ≡ in_order order (tuples_of width n old)
+pub in_order_tuples : (width n : ℕ) (order : List ℕ) (old new : List ℤ) → ((k : ℕ) → k < length order → code_of order k < n)
+    → AreInOrder width order old new → tuples_of width (length order) new ≡ in_order order (tuples_of width n old)
 in_order_tuples width n order old new within same =
     let m = length order in
     let tuples = tuples_of width n old in
@@ -55,7 +60,8 @@ slice_size width a b some =
     omega (arith, product)
 
 -- the values from tuple a to before tuple b are those of these tuples
-pub slice_tuples : {N : Type 0} (value : N → ℤ) (width n a b : ℕ) (items : List N) → a < b → b ≤ n → tuples_of width (b - a) (map value (take (b * width - a * width) (drop (a * width) items))) ≡ take (b - a) (drop a (tuples_of width n (map value items)))
+pub slice_tuples : {N : Type 0} (value : N → ℤ) (width n a b : ℕ) (items : List N) → a < b → b ≤ n → tuples_of width (b - a)
+    (map value (take (b * width - a * width) (drop (a * width) items))) ≡ take (b - a) (drop a (tuples_of width n (map value items)))
 slice_tuples {N} value width n a b items some within =
     let cut = take (b * width - a * width) (drop (a * width) items) in
     let old = tuples_of width n (map value items) in

@@ -1,7 +1,9 @@
 -- Values of tuples that are kept in some places alone.
-use Rattle.std.proofs.Common.{◌≡◌, ℕ, ℤ, pos, zero, suc, ◌+◌, ◌-◌, ◌*◌, ◌<◌, ◌≤◌, List, [], ◌++◌, length, map, take, drop, ap, sym, ◌∙◌, arith, inl, inr}
+use Rattle.std.proofs.Common.{◌≡◌, ℕ, ℤ, pos, zero, suc, ◌+◌, ◌-◌, ◌*◌, ◌<◌, ◌≤◌, List, [], ◌++◌, length, map, take, drop, ap, sym, ◌∙◌}
+use Rattle.std.proofs.Common.{arith, inl, inr}
 use Rattle.std.proofs.lemmas.Bool.{cases_lt}
-use Rattle.std.proofs.lemmas.List.{ext_get_or, get_or-map, length-map, length-append, get_or_append_left, get_or-append-add, get_or-take, get_or-drop, take-map, drop-map}
+use Rattle.std.proofs.lemmas.List.{ext_get_or, get_or-map, length-map, length-append, get_or_append_left, get_or-append-add, get_or-take}
+use Rattle.std.proofs.lemmas.List.{get_or-drop, take-map, drop-map}
 use Rattle.std.proofs.lemmas.List.FromFn.{length-map-range_with_len, get_or-map-range_with_len}
 use Rattle.cla_group.specs.Groups.{at, code_of}
 use Rattle.cla_group.specs.Tuples.{tuple_at, tuples_of}
@@ -25,13 +27,16 @@ pub record AreKept (width k : ℕ) (places : List ℕ) (old new : List ℤ) : Ty
   pub kept : (j c : ℕ) → j < k → c < length places → at new (j * length places + c) ≡ at old (j * width + code_of places c)
 
 -- the item in place c of what tuple k keeps
-pub projected_item : (width k : ℕ) (places : List ℕ) (old : List ℤ) (c : ℕ) → ArePlaces width places → c < length places → at (projected places (tuple_at width old k)) c ≡ at old (k * width + code_of places c)
+pub projected_item : (width k : ℕ) (places : List ℕ) (old : List ℤ) (c : ℕ) → ArePlaces width places → c < length places
+    → at (projected places (tuple_at width old k)) c ≡ at old (k * width + code_of places c)
 projected_item width k places old c are there =
     get_or-map (at (tuple_at width old k)) places c 0 (pos 0) there
-    ∙ get_or-map-range_with_len (λ d. at old (k * width + d)) 0 width (code_of places c) (code_of places c) (pos 0) (are.within c there) (omega arith)
+    ∙ get_or-map-range_with_len (λ d. at old (k * width + d)) 0 width (code_of places c) (code_of places c) (pos 0) (are.within c there)
+    (omega arith)
 
 -- values in which each tuple keeps these places
-pub projected_tuples : (width n : ℕ) (places : List ℕ) (old new : List ℤ) → ArePlaces width places → AreKept width n places old new → AreProjected width n places old new
+pub projected_tuples : (width n : ℕ) (places : List ℕ) (old new : List ℤ) → ArePlaces width places → AreKept width n places old new
+    → AreProjected width n places old new
 projected_tuples width n places old new are all =
     let m = length places in
     let count : length (tuples_of m n new) ≡ n = tuples_count m n new in
@@ -55,13 +60,17 @@ projected_tuples width n places old new are all =
     }
 
 -- one more tuple keeps these places
-pub kept_more : (width k : ℕ) (places : List ℕ) (old before after tuple : List ℤ) → ArePlaces width places → AreKept width k places old before →
-    ((d : ℕ) → d < width → at tuple d ≡ at old (k * width + d)) → after ≡ before ++ projected places tuple → AreKept width (k + 1) places old after
+pub kept_more : (width k : ℕ) (places : List ℕ) (old before after tuple : List ℤ) → ArePlaces width places
+    → AreKept width k places old before →
+    ((d : ℕ) → d < width → at tuple d ≡ at old (k * width + d)) → after ≡ before ++ projected places tuple → AreKept width
+    (k + 1) places old after
 kept_more width k places old before after tuple are all same grown =
     let m = length places in
     let more : (k + 1) * m ≡ k * m + m = omega arith in
     record {
-      whole = ap (λ (xs : List ℤ). length xs) grown ∙ length-append before (projected places tuple) ∙ omega (arith, all.whole, length-map places (at tuple));
+      whole =
+          ap (λ (xs : List ℤ). length xs) grown ∙ length-append before (projected places tuple)
+          ∙ omega (arith, all.whole, length-map places (at tuple));
       kept = λ j c j_there c_there. elim (cases_lt j k) [
         | inl earlier ↦
             let within : j * m + c < length before = rw all.whole (place_within m k j c earlier c_there) in
@@ -80,7 +89,8 @@ kept_more width k places old before after tuple are all same grown =
     }
 
 -- an item of a stretch of numbers
-pub stretch_item : {N : Type 0} (value : N → ℤ) (numbers : List N) (from n d : ℕ) → d < n → at (map value (take n (drop from numbers))) d ≡ at (map value numbers) (from + d)
+pub stretch_item : {N : Type 0} (value : N → ℤ) (numbers : List N) (from n d : ℕ) → d < n
+    → at (map value (take n (drop from numbers))) d ≡ at (map value numbers) (from + d)
 stretch_item value numbers from n d within =
     ap (λ (xs : List ℤ). at xs d) (sym (take-map value n (drop from numbers)))
     ∙ get_or-take n (map value (drop from numbers)) d (pos 0) within

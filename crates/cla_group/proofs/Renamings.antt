@@ -1,7 +1,10 @@
 -- New codes for the rows that are kept.
-use Rattle.std.proofs.Common.{◌≡◌, Bool, ℕ, ℤ, pos, ◌+◌, ◌*◌, ◌<◌, ◌≤◌, List, [], ◌∷◌, ◌++◌, length, map, set, take, drop, cond, eqb, refl, ap, sym, ◌∙◌, arith, inl, inr}
+use Rattle.std.proofs.Common.{◌≡◌, Bool, ℕ, ℤ, pos, ◌+◌, ◌*◌, ◌<◌, ◌≤◌, List, [], ◌∷◌, ◌++◌, length, map, set, take, drop, cond, eqb}
+use Rattle.std.proofs.Common.{refl, ap, sym, ◌∙◌, arith, inl, inr}
 use Rattle.std.proofs.lemmas.Bool.{cases_eq, cases_lt, eq-eqb, ne_eqb}
-use Rattle.std.proofs.lemmas.List.{get_or-set_same, get_or-set_other, length-set, length_push, get_or_push, get_or_append_left, get_or-append-add, length-map, length-drop, length-take-le, get_or-take, get_or-drop, take-map, drop-map}
+use Rattle.std.proofs.lemmas.List.{get_or-set_same, get_or-set_other, length-set, length_push, get_or_push, get_or_append_left}
+use Rattle.std.proofs.lemmas.List.{get_or-append-add, length-map, length-drop, length-take-le, get_or-take, get_or-drop, take-map}
+use Rattle.std.proofs.lemmas.List.{drop-map}
 use Rattle.std.proofs.lemmas.List.Folds.{position_or_len_push}
 use Rattle.std.proofs.lemmas.List.Sums.{position_or_len_is, sum_by_push, sum_by-set, get_or-le-sum_by}
 use Rattle.cla_group.specs.Groups.{at, code_of, occurrences_of, first_row_of}
@@ -23,12 +26,14 @@ pub occurrences_push : (codes : List ℕ) (code k : ℕ) → occurrences_of (cod
 occurrences_push codes code k = sum_by_push (one_if k) codes code
 
 -- there is a name left for a code that has none
-pub name_left : (none : ℕ) (fresh order : List ℕ) (k : ℕ) → AreNames none fresh order → k < length fresh → code_of fresh k ≡ none → length order < none
+pub name_left : (none : ℕ) (fresh order : List ℕ) (k : ℕ) → AreNames none fresh order → k < length fresh → code_of fresh k ≡ none
+    → length order < none
 name_left none fresh order k are there without =
     omega (arith, are.count, are.few, get_or-le-sum_by (one_if none) fresh k 0 there, here (code_of fresh k) none without)
 
 -- the next name is given to a code that has none
-pub name_given : (none : ℕ) (fresh order : List ℕ) (k : ℕ) → AreNames none fresh order → k < length fresh → code_of fresh k ≡ none → AreNames none (set fresh k (length order)) (order ++ k ∷ [])
+pub name_given : (none : ℕ) (fresh order : List ℕ) (k : ℕ) → AreNames none fresh order → k < length fresh → code_of fresh k ≡ none
+    → AreNames none (set fresh k (length order)) (order ++ k ∷ [])
 name_given none fresh order k are there without =
     let m = length order in
     let left : m < none = name_left none fresh order k are there without in
@@ -43,8 +48,11 @@ name_given none fresh order k are there without =
             (omega (arith, is, longer), ap (code_of (order ++ k ∷ [])) is ∙ last ∙ sym same)
         | inr other ↦
             let is : code_of (set fresh k m) j ≡ code_of fresh j = get_or-set_other fresh k j m 0 other in
-            let old = are.names j (omega (arith, j_there, size)) (omega (arith, j_named, is)) in
-            (omega (arith, is, longer, old.0), ap (code_of (order ++ k ∷ [])) is ∙ get_or_append_left order (k ∷ []) 0 (code_of fresh j) old.0 ∙ old.1)
+            let old = are.names j (omega (arith, j_there, size)) (omega (arith, j_named, is)) in (
+              omega (arith, is, longer, old.0),
+              ap (code_of (order ++ k ∷ [])) is ∙ get_or_append_left order (k ∷ []) 0
+                  (code_of fresh j) old.0 ∙ old.1,
+            )
       ];
       named = λ n n_there. elim (cases_eq n m) [
         | inl same ↦
@@ -73,22 +81,27 @@ pub record AreRenamedTo (i : ℕ) (old new order : List ℕ) : Type 0 where
   pub rising : (m n : ℕ) → m < n → n < length order → first_row_of new m < first_row_of new n
 
 -- a code that has a row keeps its first
-first_kept : (codes : List ℕ) (code k : ℕ) → first_row_of codes k < length codes → first_row_of (codes ++ code ∷ []) k ≡ first_row_of codes k
+first_kept : (codes : List ℕ) (code k : ℕ) → first_row_of codes k < length codes
+    → first_row_of (codes ++ code ∷ []) k ≡ first_row_of codes k
 first_kept codes code k there =
     position_or_len_push (λ x. eqb x k) codes code
-    ∙ ap (λ (b : Bool). cond b (length codes + cond (eqb code k) 0 1) (first_row_of codes k)) (ne_eqb (first_row_of codes k) (length codes) (λ same. absurd (omega (arith, there, same))))
+    ∙ ap (λ (b : Bool). cond b (length codes + cond (eqb code k) 0 1) (first_row_of codes k))
+    (ne_eqb (first_row_of codes k) (length codes) (λ same. absurd (omega (arith, there, same))))
 
 -- a code above all others has its first row at the end
 first_last : (codes : List ℕ) (k : ℕ) → ((j : ℕ) → j < length codes → code_of codes j < k) → first_row_of (codes ++ k ∷ []) k ≡ length codes
 first_last codes k below =
     position_or_len_is (λ x. eqb x k) (codes ++ k ∷ []) (length codes) 0 (omega (arith, length_push codes k))
-    (λ j row. ne_eqb (code_of (codes ++ k ∷ []) j) k (λ same. absurd (omega (arith, same, below j row, get_or_append_left codes (k ∷ []) 0 j row))))
+    (λ j row. ne_eqb (code_of (codes ++ k ∷ []) j) k (λ same. absurd
+    (omega (arith, same, below j row, get_or_append_left codes (k ∷ []) 0 j row))))
     (λ _. eq-eqb (code_of (codes ++ k ∷ []) (length codes)) k (get_or_push codes k 0 (length codes) refl))
 
 -- one more row is renamed
-pub renamed_more : (i : ℕ) (old new order order' : List ℕ) (name : ℕ) → AreRenamedTo i old new order → IsName (code_of old i) order order' name → AreRenamedTo (i + 1) old (new ++ name ∷ []) order'
+pub renamed_more : (i : ℕ) (old new order order' : List ℕ) (name : ℕ) → AreRenamedTo i old new order
+    → IsName (code_of old i) order order' name → AreRenamedTo (i + 1) old (new ++ name ∷ []) order'
 renamed_more i old new order order' name are is =
-    let kept : (n : ℕ) → n < length order → first_row_of (new ++ name ∷ []) n ≡ first_row_of new n = (λ n before. first_kept new name n (are.there n before)) in
+    let kept : (n : ℕ) → n < length order → first_row_of (new ++ name ∷ []) n ≡ first_row_of new n =
+    (λ n before. first_kept new name n (are.there n before)) in
     let fresh : length order ≤ name → first_row_of (new ++ name ∷ []) name ≡ length new =
     (λ past. first_last new name (λ j row. omega (arith, past, are.named j (omega (arith, row, are.rows))))) in
     let last : code_of (new ++ name ∷ []) i ≡ name = get_or_push new name 0 i are.rows in
@@ -104,7 +117,8 @@ renamed_more i old new order order' name are is =
         | inl same ↦ ap (code_of order') (ap (code_of (new ++ name ∷ [])) same ∙ last) ∙ is.same ∙ ap (code_of old) (sym same)
         | inr other ↦
             let before : j < i = grind (arith, there, other) in
-            ap (code_of order') (get_or_append_left new (name ∷ []) 0 j (omega (arith, before, are.rows))) ∙ is.kept (code_of new j) (are.named j before) ∙ are.same j before
+            ap (code_of order') (get_or_append_left new (name ∷ []) 0 j (omega (arith, before, are.rows)))
+            ∙ is.kept (code_of new j) (are.named j before) ∙ are.same j before
       ];
       used = λ n there. elim (cases_lt n (length order)) [
         | inl before ↦ omega (arith, are.used n before, occurrences_push new name n)
@@ -121,7 +135,14 @@ renamed_more i old new order order' name are is =
         | inr past ↦
             let is_name : n ≡ name = is.alone n past there in
             elim (cases_lt m (length order)) [
-              | inl before ↦ omega (arith, kept m before, are.there m before, ap (first_row_of (new ++ name ∷ [])) is_name, fresh (omega (arith, past, is_name)))
+              | inl before ↦ omega (
+                arith,
+                kept m before,
+                are.there m before,
+                ap (first_row_of (new ++ name ∷ [])) is_name,
+                fresh
+                    (omega (arith, past, is_name)),
+              )
               | inr both ↦ absurd (omega (arith, lower, is_name, is.alone m both (omega (arith, lower, there))))
             ]
       ];
@@ -132,24 +153,31 @@ pub record IsTuple (width code : ℕ) (values piece : List ℤ) : Type 0 where
   pub size : length piece ≡ width
   pub same : (c : ℕ) → c < width → at piece c ≡ at values (code * width + c)
 
-pub tuple_read : {N : Type 0} (value : N → ℤ) (width code n : ℕ) (values : List N) → n ≡ width → (code + 1) * width ≤ length values → IsTuple width code (map value values) (map value (take n (drop (code * width) values)))
+pub tuple_read : {N : Type 0} (value : N → ℤ) (width code n : ℕ) (values : List N) → n ≡ width → (code + 1) * width ≤ length values
+    → IsTuple width code (map value values) (map value (take n (drop (code * width) values)))
 tuple_read value width code n values whole within =
-    let size : length (take n (drop (code * width) values)) ≡ n = length-take-le n (drop (code * width) values) (omega (arith, length-drop (code * width) values, whole, within)) in
+    let size : length (take n (drop (code * width) values)) ≡ n =
+    length-take-le n (drop (code * width) values) (omega (arith, length-drop (code * width) values, whole, within)) in
     let moved : map value (take n (drop (code * width) values)) ≡ take n (drop (code * width) (map value values)) =
     sym (take-map value n (drop (code * width) values)) ∙ ap (take n) (sym (drop-map value (code * width) values)) in
     record {
       size = length-map (take n (drop (code * width) values)) value ∙ size ∙ whole;
-      same = λ c place. ap (λ (piece : List ℤ). at piece c) moved ∙ get_or-take n (drop (code * width) (map value values)) c (pos 0) (omega (arith, place, whole)) ∙ get_or-drop (code * width) (map value values) c (pos 0);
+      same =
+          λ c place. ap (λ (piece : List ℤ). at piece c) moved
+          ∙ get_or-take n (drop (code * width) (map value values)) c (pos 0) (omega (arith, place, whole))
+          ∙ get_or-drop (code * width) (map value values) c (pos 0);
     }
 
 -- the values of one more tuple stand behind those of the first i
-pub in_order_more : (width i : ℕ) (order : List ℕ) (values kept piece : List ℤ) → length kept ≡ i * width → IsTuple width (code_of order i) values piece →
+pub in_order_more : (width i : ℕ) (order : List ℕ) (values kept piece : List ℤ) → length kept ≡ i * width
+    → IsTuple width (code_of order i) values piece →
     ((k c : ℕ) → k < i → c < width → at kept (k * width + c) ≡ at values (code_of order k * width + c)) →
     (k c : ℕ) → k < i + 1 → c < width → at (kept ++ piece) (k * width + c) ≡ at values (code_of order k * width + c)
 in_order_more width i order values kept piece count is so_far k c there place = elim (cases_eq k i) [
   | inl same ↦
       let begin : k * width + c ≡ length kept + c = omega (arith, ap (λ (n : ℕ). n * width) same, count) in
-      ap (at (kept ++ piece)) begin ∙ get_or-append-add kept piece c (pos 0) ∙ is.same c place ∙ ap (λ (n : ℕ). at values (code_of order n * width + c)) (sym same)
+      ap (at (kept ++ piece)) begin ∙ get_or-append-add kept piece c (pos 0) ∙ is.same c place
+      ∙ ap (λ (n : ℕ). at values (code_of order n * width + c)) (sym same)
   | inr other ↦
       let before : k < i = grind (arith, there, other) in
       let within : k * width + c < length kept = rw count (place_within width i k c before place) in

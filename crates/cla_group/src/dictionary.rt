@@ -83,7 +83,8 @@ impl<N: Number> Dictionary<N> {
     /// The tuples keep the values in these places.
     pub fn project(&self, alloc: Global, places: &[u32]) -> Result<Dictionary<N>, Memory>
         requires { ArePlaces self.now.width places.now }
-        ensures { IfOk result (λ d. d ≡ record { width = length places.now; tuples = map (projected places.now) self.now.tuples }) }
+        ensures { let tuples = map (projected places.now) self.now.tuples in
+            IfOk result (λ d. d ≡ record { width = length places.now; tuples = tuples }) }
     {
         let values = projected_values(alloc, self.width, places, &self.values)?;
         Ok(Dictionary {
@@ -98,7 +99,8 @@ impl<N: Number> Dictionary<N> {
         requires within { (k : ℕ) → k < length order.now → code_of order.now k < length self.now.tuples }
         requires some { 0 < length order.now }
         requires few { length order.now ≤ length self.now.tuples }
-        ensures { IfOk result (λ d. d ≡ record { width = self.now.width; tuples = in_order order.now self.now.tuples }) }
+        ensures { let tuples = in_order order.now self.now.tuples in
+            IfOk result (λ d. d ≡ record { width = self.now.width; tuples = tuples }) }
     {
         let values = values_in_order(alloc, self.width, order, &self.values)?;
         Ok(Dictionary {
@@ -112,7 +114,8 @@ impl<N: Number> Dictionary<N> {
     pub fn slice(&self, alloc: Global, a: u32, b: u32) -> Result<Dictionary<N>, Memory>
         requires some { a < b }
         requires within { b ≤ length self.now.tuples }
-        ensures value { IfOk result (λ d. d ≡ record { width = self.now.width; tuples = take (b - a) (drop a self.now.tuples) }) }
+        ensures value { let tuples = take (b - a) (drop a self.now.tuples) in
+            IfOk result (λ d. d ≡ record { width = self.now.width; tuples = tuples }) }
         ensures are { IfOk result (λ d. AreTuples N.BITS d.width d.tuples) }
     {
         let width = self.width as usize;
@@ -129,7 +132,8 @@ impl<N: Number> Dictionary<N> {
         requires { length values.items ≡ length self.now.tuples * self.now.width }
         ensures are { AreTuples N.BITS result.width result.tuples }
         ensures count { length result.tuples ≡ length self.now.tuples }
-        ensures value { result ≡ record { width = self.now.width; tuples = tuples_of self.now.width (length self.now.tuples) (map N.value values.items) } }
+        ensures value { let tuples = tuples_of self.now.width (length self.now.tuples) (map N.value values.items) in
+            result ≡ record { width = self.now.width; tuples = tuples } }
     {
         Dictionary {
             width: self.width,

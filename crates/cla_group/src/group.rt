@@ -71,7 +71,8 @@ pub trait Group<N: Number> {
     fn scatter(&self, parts: &[Wide], into: &mut [Wide])
         requires tuples { length parts.now ≡ length (dictionary self.now) }
         requires rows { length into.old ≡ length (codes self.now) }
-        requires fits { (i : ℕ) → i < length into.old → FitsSigned w128 (at into.old i +ℤ at parts.now (code_of (codes self.now) i)) }
+        requires fits { (i : ℕ) → i < length into.old →
+            FitsSigned w128 (at into.old i +ℤ at parts.now (code_of (codes self.now) i)) }
         ensures { Scattered ◌+ℤ◌ (codes self.now) parts.now into.old into.new }
     {
         for i in 0..self.rows() {
@@ -112,7 +113,8 @@ pub trait Group<N: Number> {
         requires bits { IsSupported N.BITS }
         requires rows { length rows.now ≡ length (codes self.now) }
         requires tuples { length into.old ≡ length (dictionary self.now) }
-        ensures { (k : ℕ) → k < length into.old → at into.new k ≡ gathered (codes self.now) (map N.value rows.now) k }
+        ensures { (k : ℕ) → k < length into.old →
+            at into.new k ≡ gathered (codes self.now) (map N.value rows.now) k }
     {
         into.fill(Wide::zero());
         for i in 0..self.rows() {

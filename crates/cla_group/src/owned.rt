@@ -19,7 +19,10 @@ pub trait Owned<N: Number>: Group<N> + Sized {
         requires some { a < b }
         requires within { b ≤ length (Self.codes self.now) }
         ensures columns { IfOk result (λ g. Self.columns g ≡ Self.columns self.now) }
-        ensures rows { IfOk result (λ g. AreRowsFrom a (b - a) (Self.columns self.now) (Self.codes self.now) (Self.dictionary self.now) (Self.codes g) (Self.dictionary g)) }
+        ensures rows { let width = Self.columns self.now in
+            let codes = Self.codes self.now in
+            let tuples = Self.dictionary self.now in
+            IfOk result (λ g. AreRowsFrom a (b - a) width codes tuples (Self.codes g) (Self.dictionary g)) }
         ensures numbered { IfOk result (λ g. AreNumbered (Self.codes g) (length (Self.dictionary g))) };
 
     /// The same codes; each tuple keeps the values in these places, which rise.
@@ -27,12 +30,15 @@ pub trait Owned<N: Number>: Group<N> + Sized {
         requires places { ArePlaces (Self.columns self.now) places.now }
         ensures columns { IfOk result (λ g. Self.columns g ≡ length places.now) }
         ensures codes { IfOk result (λ g. Self.codes g ≡ Self.codes self.now) }
-        ensures dictionary { IfOk result (λ g. Self.dictionary g ≡ map (projected places.now) (Self.dictionary self.now)) };
+        ensures dictionary { let tuples = Self.dictionary self.now in
+            IfOk result (λ g. Self.dictionary g ≡ map (projected places.now) tuples) };
 
     /// The same codes; the tuples have these values, tuple by tuple.
     fn with_values(&self, alloc: Global, values: Vec<N>) -> Result<Self, Memory>
         requires whole { length values.items ≡ length (Self.dictionary self.now) * Self.columns self.now }
         ensures columns { IfOk result (λ g. Self.columns g ≡ Self.columns self.now) }
         ensures codes { IfOk result (λ g. Self.codes g ≡ Self.codes self.now) }
-        ensures dictionary { IfOk result (λ g. Self.dictionary g ≡ tuples_of (Self.columns self.now) (length (Self.dictionary self.now)) (map N.value values.items)) };
+        ensures dictionary { let old = Self.dictionary self.now in
+            let tuples = tuples_of (Self.columns self.now) (length old) (map N.value values.items) in
+            IfOk result (λ g. Self.dictionary g ≡ tuples) };
 }

@@ -16,7 +16,9 @@ pub fn projected_values<N: Number>(
     values: &[N],
 ) -> Result<Vec<N>, Memory>
     requires places { ArePlaces width places.now }
-    ensures { IfOk result (λ kept. (n : ℕ) → length values.now ≡ n * width → AreProjected width n places.now (map N.value values.now) (map N.value kept.items)) }
+    ensures { let old = map N.value values.now in
+        IfOk result (λ kept. (n : ℕ) → length values.now ≡ n * width →
+        AreProjected width n places.now old (map N.value kept.items)) }
 {
     let width = width as usize;
     let tuples = values.len() / width;
@@ -30,7 +32,8 @@ pub fn projected_values<N: Number>(
 // Appends what a tuple keeps in these places.
 fn keep_places<N: Number>(tuple: &[N], places: &[u32], kept: &mut Vec<N>) -> Result<(), Memory>
     requires within { (c : ℕ) → c < length places.now → code_of places.now c < length tuple.now }
-    ensures { IfOk result (λ _. map N.value kept.new.items ≡ map N.value kept.old.items ++ projected places.now (map N.value tuple.now)) }
+    ensures { let more = projected places.now (map N.value tuple.now) in
+        IfOk result (λ _. map N.value kept.new.items ≡ map N.value kept.old.items ++ more) }
 {
     for place in places {
         kept.push(tuple[*place as usize])?;

@@ -68,7 +68,8 @@ pub fn values_in_order<N: Number>(
     requires few { length order.now ≤ most_cells }
     requires narrow { width ≤ most_cells }
     ensures count { IfOk result (λ kept. length kept.items ≡ length order.now * width) }
-    ensures values { IfOk result (λ kept. AreInOrder width order.now (map N.value values.now) (map N.value kept.items)) }
+    ensures values { let old = map N.value values.now in
+        IfOk result (λ kept. AreInOrder width order.now old (map N.value kept.items)) }
 {
     let places = width as usize;
     let mut kept = Vec::with_capacity(alloc, order.len() * places)?;

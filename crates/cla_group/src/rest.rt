@@ -12,7 +12,8 @@ use cla_num::{Number, Wide};
 pub fn rest_tuple<N: Number>(width: u32, values: &[N]) -> Option<u32>
     requires a_column { 1 ≤ width }
     requires few { length values.now ≤ most_cells }
-    ensures { (n : ℕ) (codes : List ℕ) → length values.now ≡ n * width → result ≡ rest_of codes (tuples_of width n (map N.value values.now)) }
+    ensures { (n : ℕ) (codes : List ℕ) → length values.now ≡ n * width →
+        result ≡ rest_of codes (tuples_of width n (map N.value values.now)) }
 {
     let width = width as usize;
     for k in 0..values.len() / width {

@@ -10,7 +10,8 @@ use Rattle.cla_group.proofs.Counting.{rows_count, code_is, occurs_once, first_ro
 use Rattle.cla_plain.specs.Rows.{AreRows}
 
 -- row i has code i
-pub plain_group : (bits width : ℕ) (tuples : List (List ℤ)) → AreTuples bits width tuples → IsGroup bits width (range_with_len 0 (length tuples)) tuples
+pub plain_group : (bits width : ℕ) (tuples : List (List ℤ)) → AreTuples bits width tuples
+    → IsGroup bits width (range_with_len 0 (length tuples)) tuples
 plain_group bits width tuples are =
     let n = length tuples in
     record {
@@ -47,7 +48,8 @@ module _ (width a b : ℕ) (tuples : List (List ℤ)) (some : a < b) (within : b
   unfolding cut
   cut_count = length-take-le (b - a) (drop a tuples) (omega (arith, length-drop a tuples, within))
 
-  cut_cell : (i c : ℕ) → i < b - a → cell_of (range_with_len 0 (length cut)) cut i c ≡ cell_of (range_with_len 0 (length tuples)) tuples (a + i) c
+  cut_cell : (i c : ℕ) → i < b - a
+      → cell_of (range_with_len 0 (length cut)) cut i c ≡ cell_of (range_with_len 0 (length tuples)) tuples (a + i) c
   unfolding cut
   cut_cell i c row =
       let old : a + i < length tuples = omega (arith, row, within) in
@@ -57,7 +59,8 @@ module _ (width a b : ℕ) (tuples : List (List ℤ)) (some : a < b) (within : b
       ∙ ap (λ (k : ℕ). value_of tuples k c) (sym (code_is (length tuples) (a + i) old))
 
 pub rows_cut : (width a b : ℕ) (tuples : List (List ℤ)) → a < b → b ≤ length tuples →
-    AreRowsFrom a (b - a) width (range_with_len 0 (length tuples)) tuples (range_with_len 0 (length (take (b - a) (drop a tuples)))) (take (b - a) (drop a tuples))
+    AreRowsFrom a (b - a) width (range_with_len 0 (length tuples)) tuples (range_with_len 0 (length (take (b - a) (drop a tuples))))
+    (take (b - a) (drop a tuples))
 unfolding cut
 rows_cut width a b tuples some within =
     let n = length (take (b - a) (drop a tuples)) in

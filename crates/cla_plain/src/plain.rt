@@ -27,7 +27,8 @@ impl<N: Number> Plain<N> {
         requires rows { AreRows width values.items }
         ensures columns { ⟦<Plain<N> as Group<N>>⟧.columns result ≡ width }
         ensures codes { ⟦<Plain<N> as Group<N>>⟧.codes result ≡ range_with_len 0 (length values.items / width) }
-        ensures dictionary { ⟦<Plain<N> as Group<N>>⟧.dictionary result ≡ tuples_of width (length values.items / width) (map N.value values.items) }
+        ensures dictionary { let tuples = tuples_of width (length values.items / width) (map N.value values.items) in
+            ⟦<Plain<N> as Group<N>>⟧.dictionary result ≡ tuples }
     {
         let rows = (values.len() / width as usize) as u32;
         Plain {
@@ -93,8 +94,11 @@ impl<N: Number> Owned<N> for Plain<N> {
         requires whole { length values.items ≡ length self.now.dictionary.tuples * self.now.dictionary.width }
         ensures succeeds { IsOk result }
         ensures columns { IfOk result (λ g. g.dictionary.width ≡ self.now.dictionary.width) }
-        ensures codes { IfOk result (λ g. range_with_len 0 (length g.dictionary.tuples) ≡ range_with_len 0 (length self.now.dictionary.tuples)) }
-        ensures dictionary { IfOk result (λ g. g.dictionary.tuples ≡ tuples_of self.now.dictionary.width (length self.now.dictionary.tuples) (map N.value values.items)) }
+        ensures codes { let codes = range_with_len 0 (length self.now.dictionary.tuples) in
+            IfOk result (λ g. range_with_len 0 (length g.dictionary.tuples) ≡ codes) }
+        ensures dictionary { let old = self.now.dictionary in
+            let tuples = tuples_of old.width (length old.tuples) (map N.value values.items) in
+            IfOk result (λ g. g.dictionary.tuples ≡ tuples) }
     {
         Ok(Plain {
             dictionary: self.dictionary.with_values(values),

@@ -17,12 +17,16 @@ loop-part-preserved g c =
     let so_far = c.loop-part.invariant in
     rw c.in_ok-push.ensures.items (record {
       outlines = mapped_more (outline any_columns any_codes) (outline any_columns any_codes) items i c.part-item.result done copy c.loop-part-test.true c.part-item.is so_far.outlines more.outline;
-      parts = mapped_more (part_of any_codes any_dictionary) (part_of any_codes any_dictionary) items i c.part-item.result done copy c.loop-part-test.true c.part-item.is so_far.parts more.part;
-      forms = mapped_more (λ part. any_form part.group) (λ part. any_form part.group) items i c.part-item.result done copy c.loop-part-test.true c.part-item.is so_far.forms more.form;
+      parts = mapped_more (part_of any_codes any_dictionary)
+          (part_of any_codes any_dictionary) items i c.part-item.result done copy c.loop-part-test.true c.part-item.is so_far.parts more.part;
+      forms =
+          mapped_more (λ part. any_form part.group)
+          (λ part. any_form part.group) items i c.part-item.result done copy c.loop-part-test.true c.part-item.is so_far.forms more.form;
     })
 
 -- all parts are copied
-all_parts : {G X : Type 0} (f : G → X) (items copies : List G) (i : ℕ) → length items ≤ i → map f copies ≡ take i (map f items) → map f copies ≡ map f items
+all_parts : {G X : Type 0} (f : G → X) (items copies : List G) (i : ℕ) → length items ≤ i → map f copies ≡ take i (map f items)
+    → map f copies ≡ map f items
 all_parts f items copies i past so_far = so_far ∙ take_all i (map f items) (rw (length-map items f) past)
 
 pub with_parts-requires : goal.with_parts-requires
@@ -33,7 +37,8 @@ pub returns-clause-layout : goal.returns-clause-layout
 returns-clause-layout g c =
     let view = part_of any_codes any_dictionary in
     let all = all_parts view c.parts-part-items.result.now _ c.loop-part.part-index c.loop-part-test.false c.loop-part.invariant.parts in
-    rw c.with_parts.ensures (ap (λ parts. layout_with c.args.m.now.rows c.args.m.now.cols parts) (all ∙ ap (map view) c.parts-part-items.ensures.parts))
+    rw c.with_parts.ensures
+    (ap (λ parts. layout_with c.args.m.now.rows c.args.m.now.cols parts) (all ∙ ap (map view) c.parts-part-items.ensures.parts))
 
 pub returns-clause-forms : goal.returns-clause-forms
 returns-clause-forms g c =

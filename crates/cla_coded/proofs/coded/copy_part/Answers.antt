@@ -7,7 +7,10 @@ use Rattle.cla_coded.proofs.coded.copy_part.Goals as goal
 pub project-requires : goal.project-requires
 project-requires g c =
     let group = c.args.part.now.group in
-    record { places = rw (c.deref-2.ensures.value, c.in_ok-places.ensures, c.width.ensures) (all_places (any_columns group) (any_law group).a_column) }
+    record {
+      places = rw (c.deref-2.ensures.value, c.in_ok-places.ensures, c.width.ensures)
+          (all_places (any_columns group) (any_law group).a_column);
+    }
 
 pub returns-clause-part : goal.returns-clause-part
 returns-clause-part g c =
@@ -20,4 +23,5 @@ pub returns-clause-outline : goal.returns-clause-outline
 returns-clause-outline g c =
     let group = c.args.part.now.group in
     let width = rw (c.deref-2.ensures.value, c.in_ok-places.ensures, c.width.ensures) at c.in_ok-group.ensures.columns in
-    equal_outlines _ _ (c.in_ok-columns.ensures.items ∙ c.deref.ensures.value) (width ∙ rows_count (any_columns group)) c.in_ok-group.ensures.codes
+    equal_outlines _ _ (c.in_ok-columns.ensures.items ∙ c.deref.ensures.value)
+    (width ∙ rows_count (any_columns group)) c.in_ok-group.ensures.codes

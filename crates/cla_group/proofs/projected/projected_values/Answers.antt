@@ -23,8 +23,11 @@ loop-k-preserved g c =
     let n = (k + 1) * width - k * width in
     let one : n ≡ width = omega arith in
     record {
-      so_far = kept_more width k c.args.places.now (map value values) (map value c.loop-k.kept.items) (map value c.keep_places.new.kept.items) (map value (take n (drop (k * width) values)))
-          c.requires.places c.loop-k.invariant.so_far (λ d within. stretch_item value values (k * width) n d (omega (arith, one, within))) c.in_ok-keep_places.ensures;
+      so_far =
+          kept_more width k c.args.places.now (map value values) (map value c.loop-k.kept.items) (map value c.keep_places.new.kept.items)
+          (map value (take n (drop (k * width) values)))
+          c.requires.places c.loop-k.invariant.so_far
+          (λ d within. stretch_item value values (k * width) n d (omega (arith, one, within))) c.in_ok-keep_places.ensures;
     }
 
 pub returns : goal.returns

@@ -7,7 +7,8 @@ pub loop-code-preserved : goal.loop-code-preserved
 loop-code-preserved c =
     let fresh = c.loop-code.fresh in
     let whole : fresh.len ≡ length fresh.items = search rules in
-    let size : length c.name_of.new.fresh ≡ fresh.len = omega (arith, c.name_of.auto.fresh, c.deref_mut.ensures.len, c.deref_mut.ensures.value, whole) in
+    let size : length c.name_of.new.fresh ≡ fresh.len =
+    omega (arith, c.name_of.auto.fresh, c.deref_mut.ensures.len, c.deref_mut.ensures.value, whole) in
     let written = take_at c.name_of.new.fresh (drop (length c.name_of.new.fresh) fresh.items) fresh.len size in
     record {
       size = ap length written ∙ size ∙ whole ∙ c.loop-code.invariant.size;

@@ -18,6 +18,10 @@ loop-k-preserved g c =
     let is = tuple_read value width code n values (omega arith) (c.requires.within i (omega arith)) in
     let size : length (map value kept) ≡ i * width = length-map kept value ∙ c.loop-k.invariant.count in
     record {
-      count = rw c.in_ok-extend_from_slice.ensures.items (omega (arith, length-append kept piece, c.loop-k.invariant.count, is.size, length-map piece value));
-      so_far = rw (c.in_ok-extend_from_slice.ensures.items, map-append value kept piece) (in_order_more width i order (map value values) (map value kept) (map value piece) size is c.loop-k.invariant.so_far);
+      count =
+          rw c.in_ok-extend_from_slice.ensures.items
+          (omega (arith, length-append kept piece, c.loop-k.invariant.count, is.size, length-map piece value));
+      so_far =
+          rw (c.in_ok-extend_from_slice.ensures.items, map-append value kept piece)
+          (in_order_more width i order (map value values) (map value kept) (map value piece) size is c.loop-k.invariant.so_far);
     }

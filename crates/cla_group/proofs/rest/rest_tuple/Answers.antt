@@ -14,9 +14,11 @@ returns-then-is_zero g c = λ n codes whole.
     let k = c.loop-k.k in
     let count : length values / width ≡ n = ap (λ (l : ℕ). l / width) (omega (arith, whole)) ∙ div-mul-add n width 0 c.requires.a_column in
     let there : k < n = omega (arith, count) in
-    let within : (k + 1) * width ≤ length values = omega (arith, whole, mul-le-mul_right {m = k + 1} {n = n} width (omega (arith, there))) in
+    let within : (k + 1) * width ≤ length values =
+    omega (arith, whole, mul-le-mul_right {m = k + 1} {n = n} width (omega (arith, there))) in
     let piece = (k + 1) * width - k * width in
-    let is : is_zero (tuple_at width (map value values) k) ≡ true = ap is_zero (sym (tuple_piece value width k piece values (omega arith) within)) ∙ sym c.is_zero.ensures ∙ c.if-is_zero.true in
+    let is : is_zero (tuple_at width (map value values) k) ≡ true =
+    ap is_zero (sym (tuple_piece value width k piece values (omega arith) within)) ∙ sym c.is_zero.ensures ∙ c.if-is_zero.true in
     rest_found codes width n k (map value values) there c.loop-k.invariant.others is)
 
 pub loop-k-preserved : goal.loop-k-preserved
@@ -26,9 +28,12 @@ loop-k-preserved g c =
     let values = c.args.values.now in
     let k = c.loop-k.k in
     let row : k < length values / width = omega arith in
-    let within : (k + 1) * width ≤ length values = omega (arith, div-add-mod' (length values) width, mul-le-mul_right {m = k + 1} {n = length values / width} width (omega (arith, row))) in
+    let within : (k + 1) * width ≤ length values =
+    omega
+    (arith, div-add-mod' (length values) width, mul-le-mul_right {m = k + 1} {n = length values / width} width (omega (arith, row))) in
     let piece = (k + 1) * width - k * width in
-    let is : is_zero (tuple_at width (map value values) k) ≡ false = ap is_zero (sym (tuple_piece value width k piece values (omega arith) within)) ∙ sym c.is_zero.ensures ∙ c.if-is_zero.false in
+    let is : is_zero (tuple_at width (map value values) k) ≡ false =
+    ap is_zero (sym (tuple_piece value width k piece values (omega arith) within)) ∙ sym c.is_zero.ensures ∙ c.if-is_zero.false in
     record { others = below_more _ _ c.loop-k.invariant.others is }
 
 pub returns : goal.returns
@@ -36,4 +41,5 @@ returns g c = λ n codes whole.
     (let width = c.args.width in
     let values = c.args.values.now in
     let count : length values / width ≡ n = ap (λ (l : ℕ). l / width) (omega (arith, whole)) ∙ div-mul-add n width 0 c.requires.a_column in
-    rest_missed codes width n (map g.N.Number.value values) (λ j there. c.loop-k.invariant.others j (omega (arith, there, count, c.loop-k-test.false, c.loop-k.auto.k-end))))
+    rest_missed codes width n (map g.N.Number.value values)
+    (λ j there. c.loop-k.invariant.others j (omega (arith, there, count, c.loop-k-test.false, c.loop-k.auto.k-end))))

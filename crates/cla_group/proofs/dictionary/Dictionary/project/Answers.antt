@@ -18,10 +18,17 @@ invariant_of-result g c =
     let values = c.in_ok-values.values.items in
     let are : ArePlaces d.width c.args.places.now = rw (← c.self.view_is) at c.requires in
     let whole : length c.deref.result.now ≡ d.tuples * d.width = ap length c.deref.ensures.value ∙ c.self.invariant.whole in
-    let count : length values ≡ d.tuples * length c.args.places.now = sym (length-map values g.N.Number.value) ∙ (c.in_ok-values.ensures d.tuples whole).whole in
+    let count : length values ≡ d.tuples * length c.args.places.now =
+    sym (length-map values g.N.Number.value) ∙ (c.in_ok-values.ensures d.tuples whole).whole in
     record {
       a_column = are.some;
       a_tuple = c.self.invariant.a_tuple;
       whole = count;
-      few = omega (arith, count, c.self.invariant.whole, c.self.invariant.few, mul-le-mul_left {m = length c.args.places.now} {n = d.width} d.tuples (places_few d.width c.args.places.now are));
+      few = omega (
+        arith,
+        count,
+        c.self.invariant.whole,
+        c.self.invariant.few,
+        mul-le-mul_left {m = length c.args.places.now} {n = d.width} d.tuples (places_few d.width c.args.places.now are),
+      );
     }

@@ -15,10 +15,12 @@ the_dictionary width tuples = record { width = width; tuples = tuples }
 within : (g : Over) (c : In_ok-from_slice g) → c.args.b ≤ c.self.inside.tuples
 within g c =
     let d = c.self.inside in
-    let there : c.args.b ≤ length (tuples_of d.width d.tuples (map g.N.Number.value d.values.items)) = rw (← c.self.view_is) at c.requires.within in
+    let there : c.args.b ≤ length (tuples_of d.width d.tuples (map g.N.Number.value d.values.items)) =
+    rw (← c.self.view_is) at c.requires.within in
     omega (arith, there, tuples_count d.width d.tuples (map g.N.Number.value d.values.items))
 
-values_are : (g : Over) (c : In_ok-from_slice g) → AreValues c.self.inside.width (c.args.b - c.args.a) (length c.in_ok-from_slice.field-0.items)
+values_are : (g : Over) (c : In_ok-from_slice g)
+    → AreValues c.self.inside.width (c.args.b - c.args.a) (length c.in_ok-from_slice.field-0.items)
 values_are g c =
     let d = c.self.inside in
     let from = c.args.a * d.width in
