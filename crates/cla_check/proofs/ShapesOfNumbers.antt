@@ -1,5 +1,5 @@
 -- Shapes don't depend on what the numbers of a script are.
-use Rattle.std.proofs.Common.{◌≡◌, ℕ, ℤ, pos, List, [], ◌∷◌, refl, sym, ap, ◌∙◌, Bool, true, false, Option, Some, None, Result, Ok, Err}
+use Rattle.std.proofs.Common.{◌≡◌, ℤ, pos, List, [], ◌∷◌, refl, ap, ◌∙◌, true, Option, Some, None, Result, Ok, Err}
 use Rattle.std.specs.Prelude.{is_none}
 use Rattle.cla_script.specs.View.{tree_of, statement_of}
 use Rattle.cla_script.specs.Reads.{statements_of}
@@ -7,7 +7,7 @@ use Rattle.cla_script.specs.declared.expr.Expr.{Expr}
 use Rattle.cla_script.specs.declared.expr.Expr.TheVariants.{Number, Named, Neg', Square', Binary', Call', Bind', Slice'}
 use Rattle.cla_script.specs.declared.expr.Statement.{Statement}
 use Rattle.cla_script.specs.declared.expr.Statement.TheVariants.{Read, Let, Print, Write, Pack}
-use Rattle.cla_check.specs.Shapes.{◌>>=◌, Names, shape_of}
+use Rattle.cla_check.specs.Shapes.{Names, shape_of}
 use Rattle.cla_check.specs.Scripts.{Scope, after, onward, shape_fault_after, first_shape_fault}
 use Rattle.cla_check.specs.Fits.{bare_trees, is_fitting}
 use Rattle.cla_check.specs.declared.shape.Shape.{Shape}

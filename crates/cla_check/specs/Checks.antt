@@ -1,5 +1,5 @@
 -- What the check of shapes answers.
-use Rattle.std.specs.Prelude.{◌≡◌, ℕ, ℤ, List, Option, Some, None, Result, Ok, Err}
+use Rattle.std.specs.Prelude.{◌≡◌, ℤ, List, Some, None, Result, Ok, Err}
 use Rattle.cla_script.specs.Reads.{statements_of}
 use Rattle.cla_script.specs.declared.expr.Script.{Script}
 use Rattle.cla_check.specs.Scripts.{first_shape_fault}

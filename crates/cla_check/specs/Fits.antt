@@ -1,11 +1,10 @@
 -- Whether the shapes of a script have no fault.
-use Rattle.std.specs.Prelude.{◌≡◌, pos, ℕ, List, is_none, Bool}
+use Rattle.std.specs.Prelude.{pos, List, is_none, Bool}
 use Rattle.cla_grammar.specs.Tree as tree
 use Rattle.cla_script.specs.Reads.{statements_of}
-use Rattle.cla_script.specs.declared.expr.Script.{Script}
 use Rattle.cla_script.specs.declared.expr.Statement.{Statement}
 use Rattle.cla_check.specs.declared.shape.Shape.{Shape}
-use Rattle.cla_check.specs.Scripts.{first_shape_fault, reads_in}
+use Rattle.cla_check.specs.Scripts.{first_shape_fault}
 
 -- the trees of statements with 0 for each number, since shapes don't depend on numbers
 abbrev pub bare_trees : {N : Type 0} → List (Statement N) → List tree.Statement

@@ -1,5 +1,5 @@
 -- What contracts see of the names that were assigned.
-use Rattle.std.specs.Prelude.{ℕ, List, map}
+use Rattle.std.specs.Prelude.{List, map}
 use Rattle.cla_check.specs.Shapes.{Names}
 use Rattle.cla_check.specs.declared.names.Assigned.{Assigned}
 

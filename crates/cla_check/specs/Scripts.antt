@@ -1,5 +1,5 @@
 -- The first fault of a script's shapes.
-use Rattle.std.specs.Prelude.{◌≡◌, ℕ, suc, ◌≤◌, ◌*◌, List, [], ◌∷◌, ◌++◌, Option, Some, None, Result, Ok, Err}
+use Rattle.std.specs.Prelude.{ℕ, suc, ◌≤◌, ◌*◌, List, [], ◌∷◌, ◌++◌, Option, Some, None, Result, Ok, Err}
 use Rattle.cla_grammar.specs.Tree.{Statement, ReadOf, LetOf, PrintOf, SaveOf}
 use Rattle.cla_check.specs.declared.shape.TheConstants.{MOST_LINES, MOST_CELLS}
 use Rattle.cla_check.specs.declared.shape.Shape.{Shape}

@@ -33,9 +33,8 @@ impl<N: Number> Checked<N> {
     /// The script that was handed in. It takes no memory.
     pub fn script(&self) -> &Script<N>
         ensures same { result.now ≡ script_of self.now }
-        ensures fits {
-            first_shape_fault (statements_of N.value result.now.statements.items) (inputs_of self.now) ≡ None
-        }
+        ensures fits { first_shape_fault (statements_of N.value result.now.statements.items)
+            (inputs_of self.now) ≡ None }
     {
         &self.script
     }

@@ -1,4 +1,4 @@
--- The grammar, a rule for each constructor. A level is 1 for comparisons up to 8 for what stands by itself.
+-- The grammar of scripts as a relation between tokens and trees, a constructor for each rule.
 use Rattle.std.specs.Prelude.{pos, ℕ, suc, ◌≤◌, List, [], ◌∷◌, ◌++◌}
 use Rattle.cla_grammar.specs.declared.place.Place.{Place}
 use Rattle.cla_grammar.specs.Tokens.{Token, Placed, Number, Name, Text, Sign, Assign, Power, Open, Close, Comma}
@@ -15,40 +15,68 @@ use Rattle.cla_grammar.specs.declared.words.SaveWord.{SaveWord}
 abbrev pub at : Place → Token → Placed
 at p t = record { place = p; token = t }
 
+-- span = nothing | NUMBER | NUMBER ":" NUMBER
 pub data IsSpan : List Placed → Span → Type 0 where
   every : IsSpan [] Every
   one : (p : Place) (n : ℕ) → IsSpan (at p (Number n) ∷ []) (One n)
   pair : (p q r : Place) (n m : ℕ) → IsSpan (at p (Number n) ∷ (at q Colon ∷ (at r (Number m) ∷ []))) (Pair n m)
 
+-- Tokens are an expression whose last operator has this level or a higher one: 1 comparisons, 2 `+` and `-`, 3 `*`,
+-- 4 `%*%`, `%/%` and `%%`, 5 unary minus, 6 `^`, 7 slices, and 8 what stands by itself. Binary operators associate to
+-- the left, and parentheses leave no node.
 pub data Derives : ℕ → List Placed → Tree → Type 0 where
+  -- NUMBER
   number : (p : Place) (n : ℕ) → Derives 8 (at p (Number n) ∷ []) (Constant (pos n))
+  -- NAME
   name : (p : Place) (n : List ℕ) → Derives 8 (at p (Name n) ∷ []) (Named p n)
-  paren : (p q : Place) {a : List Placed} {x : Tree} → Derives 1 a x
+  -- "(" expr ")"
+  paren : (p q : Place) {a : List Placed} {x : Tree}
+      → Derives 1 a x
       → Derives 8 (at p Open ∷ (a ++ (at q Close ∷ []))) x
-  call : (p q r : Place) (f : Call) {a : List Placed} {x : Tree} → Derives 1 a x
+  -- CALL "(" expr ")"
+  call : (p q r : Place) (f : Call) {a : List Placed} {x : Tree}
+      → Derives 1 a x
       → Derives 8 (at p (Function f) ∷ (at q Open ∷ (a ++ (at r Close ∷ [])))) (Apply p f x)
-  bind : (p q r s : Place) (f : Bind) {a b : List Placed} {x y : Tree} → Derives 1 a x → Derives 1 b y
+  -- BIND "(" expr "," expr ")"
+  bind : (p q r s : Place) (f : Bind) {a b : List Placed} {x y : Tree}
+      → Derives 1 a x → Derives 1 b y
       → Derives 8 (at p (Binder f) ∷ (at q Open ∷ (a ++ (at r Comma ∷ (b ++ (at s Close ∷ [])))))) (Join p f x y)
-  slice : (p q r : Place) {a u v : List Placed} {x : Tree} {rows cols : Span} → Derives 7 a x → IsSpan u rows
-      → IsSpan v cols → Derives 7 (a ++ (at p OpenSquare ∷ (u ++ (at q Comma ∷ (v ++ (at r CloseSquare ∷ []))))))
-      (Slice p x rows cols)
-  square : (p q : Place) {a : List Placed} {x : Tree} → Derives 6 a x
+  -- post "[" span "," span "]"
+  slice : (p q r : Place) {a u v : List Placed} {x : Tree} {rows cols : Span}
+      → Derives 7 a x → IsSpan u rows → IsSpan v cols
+      → Derives 7 (a ++ (at p OpenSquare ∷ (u ++ (at q Comma ∷ (v ++ (at r CloseSquare ∷ [])))))) (Slice p x rows cols)
+  -- power "^" 2
+  square : (p q : Place) {a : List Placed} {x : Tree}
+      → Derives 6 a x
       → Derives 6 (a ++ (at p Power ∷ (at q (Number 2) ∷ []))) (Square p x)
-  negative : (p : Place) {a : List Placed} {x : Tree} → Derives 5 a x → Derives 5 (at p (Sign (Cell Sub)) ∷ a)
-      (Negative p x)
-  binary : (p : Place) (o : BinOp) {a b : List Placed} {x y : Tree} → Derives (level o) a x
-      → Derives (suc (level o)) b y → Derives (level o) (a ++ (at p (Sign o) ∷ b)) (Binary p o x y)
+  -- "-" unary
+  negative : (p : Place) {a : List Placed} {x : Tree}
+      → Derives 5 a x
+      → Derives 5 (at p (Sign (Cell Sub)) ∷ a) (Negative p x)
+  -- a binary operator, its left operand of its own level
+  binary : (p : Place) (o : BinOp) {a b : List Placed} {x y : Tree}
+      → Derives (level o) a x → Derives (suc (level o)) b y
+      → Derives (level o) (a ++ (at p (Sign o) ∷ b)) (Binary p o x y)
+  -- a higher level stands where a lower one may
   up : {l : ℕ} {a : List Placed} {x : Tree} → 1 ≤ l → Derives (suc l) a x → Derives l a x
 
+-- Tokens are a statement.
 pub data Reads : List Placed → Statement → Type 0 where
+  -- NAME "=" "read" "(" TEXT ")"
   reading : (p q r s t u : Place) (n f : List ℕ)
       → Reads (at p (Name n) ∷ (at q Assign ∷ (at r Read ∷ (at s Open ∷ (at t (Text f) ∷ (at u Close ∷ []))))))
       (ReadOf n f)
-  letting : (p q : Place) (n : List ℕ) {a : List Placed} {x : Tree} → Derives 1 a x
+  -- NAME "=" expr
+  letting : (p q : Place) (n : List ℕ) {a : List Placed} {x : Tree}
+      → Derives 1 a x
       → Reads (at p (Name n) ∷ (at q Assign ∷ a)) (LetOf n x)
-  printing : (p q r : Place) {a : List Placed} {x : Tree} → Derives 1 a x
+  -- "print" "(" expr ")"
+  printing : (p q r : Place) {a : List Placed} {x : Tree}
+      → Derives 1 a x
       → Reads (at p Print ∷ (at q Open ∷ (a ++ (at r Close ∷ [])))) (PrintOf x)
-  saving : (k : SaveWord) (p q r s t : Place) (f : List ℕ) {a : List Placed} {x : Tree} → Derives 1 a x
+  -- "write" "(" expr "," TEXT ")", and the same with "pack"
+  saving : (k : SaveWord) (p q r s t : Place) (f : List ℕ) {a : List Placed} {x : Tree}
+      → Derives 1 a x
       → Reads (at p (Save k) ∷ (at q Open ∷ (a ++ (at r Comma ∷ (at s (Text f) ∷ (at t Close ∷ []))))))
       (SaveOf k p x s f)
 

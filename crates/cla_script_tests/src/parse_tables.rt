@@ -253,8 +253,16 @@ pub const CLASH: [(&str, u32, u32); 7] = [
     ("X = read(\"a\")\nwrite(X, \"a\")", 2, 10),
     ("write(1, \"a\")\nX = read(\"a\")", 1, 10),
     ("X = read(\"a\")\npack(X, \"a\")", 2, 9),
-    ("X = read(\"a\")\nwrite(X, \"b\")\nwrite(X, \"a\")\npack(X, \"a\")", 3, 10),
+    (
+        "X = read(\"a\")\nwrite(X, \"b\")\nwrite(X, \"a\")\npack(X, \"a\")",
+        3,
+        10,
+    ),
     ("X = read(\"a\"); write(X, \"a\")", 1, 25),
     ("X = read(\"a\")\nY = read(\"b\")\nwrite(X, \"b\")", 3, 10),
-    ("pack(1, \"b\")\nwrite(1, \"a\")\nX = read(\"a\")\nY = read(\"b\")", 1, 9),
+    (
+        "pack(1, \"b\")\nwrite(1, \"a\")\nX = read(\"a\")\nY = read(\"b\")",
+        1,
+        9,
+    ),
 ];

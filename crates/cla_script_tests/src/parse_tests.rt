@@ -81,7 +81,13 @@ fn faults_of_numbers_and_files(rt: HostRuntime) -> Result<(), Fail> {
 }
 
 // The front, this piece so many times, and the back.
-fn repeated(alloc: Global, front: &str, piece: &str, times: usize, back: &str) -> Result<String, Fail> {
+fn repeated(
+    alloc: Global,
+    front: &str,
+    piece: &str,
+    times: usize,
+    back: &str,
+) -> Result<String, Fail> {
     let mut text = String::from_str(alloc, front)?;
     for _ in 0..times {
         text.push_str(piece)?;
@@ -119,7 +125,10 @@ fn texts_of_255_bytes_and_more(rt: HostRuntime) -> Result<(), Fail> {
     let good = repeated(rt.alloc(), "X = read(\"", "a", 255, "\")")?;
     assert_eq!(rt; first_fault::<Int<47>>(rt.alloc(), &good)?, None);
     let bad = repeated(rt.alloc(), "X = read(\"", "a", 256, "\")")?;
-    assert_eq!(rt; first_fault::<Int<47>>(rt.alloc(), &bad)?, Some((ScriptKind::Text, 1, 10)));
+    assert_eq!(rt;
+        first_fault::<Int<47>>(rt.alloc(), &bad)?,
+        Some((ScriptKind::Text, 1, 10))
+    );
     Ok(())
 }
 

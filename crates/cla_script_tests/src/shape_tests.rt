@@ -118,16 +118,30 @@ fn first_fault(alloc: Global, rest: &str, x: Shape, y: Shape) -> Result<Option<A
 // No script of the table has a fault of shapes.
 fn have_no_fault(rt: &impl Abort, alloc: Global, table: &[&str]) -> Result<(), Fail> {
     for text in table {
-        let fault = first_fault(alloc, text, Shape { rows: 3, cols: 2 }, Shape { rows: 2, cols: 3 })?;
+        let fault = first_fault(
+            alloc,
+            text,
+            Shape { rows: 3, cols: 2 },
+            Shape { rows: 2, cols: 3 },
+        )?;
         assert_eq!(rt; fault, None, "{text}");
     }
     Ok(())
 }
 
 // Each script of the table has its first fault of shapes at its place.
-fn have_faults(rt: &impl Abort, alloc: Global, table: &[(&str, ShapeKind, u32, u32)]) -> Result<(), Fail> {
+fn have_faults(
+    rt: &impl Abort,
+    alloc: Global,
+    table: &[(&str, ShapeKind, u32, u32)],
+) -> Result<(), Fail> {
     for (text, kind, line, col) in table {
-        let fault = first_fault(alloc, text, Shape { rows: 3, cols: 2 }, Shape { rows: 2, cols: 3 })?;
+        let fault = first_fault(
+            alloc,
+            text,
+            Shape { rows: 3, cols: 2 },
+            Shape { rows: 2, cols: 3 },
+        )?;
         assert_eq!(rt; fault, Some((*kind, *line, *col)), "{text}");
     }
     Ok(())
@@ -145,20 +159,63 @@ fn first_faults_of_shapes(rt: HostRuntime) -> Result<(), Fail> {
 
 #[test]
 fn results_of_2_to_the_26_cells_and_more(rt: HostRuntime) -> Result<(), Fail> {
-    let column = Shape { rows: 67108864, cols: 1 };
-    let row = Shape { rows: 1, cols: 67108864 };
+    let column = Shape {
+        rows: 67108864,
+        cols: 1,
+    };
+    let row = Shape {
+        rows: 1,
+        cols: 67108864,
+    };
     let pair = Shape { rows: 1, cols: 2 };
     let table = [
         ("print(t(X))", column, pair, None),
-        ("print(X %*% Y)", column, pair, Some((ShapeKind::TooLarge, 2, 9))),
-        ("print(rbind(X, X))", column, pair, Some((ShapeKind::TooLarge, 2, 7))),
-        ("print(cbind(X, X))", column, pair, Some((ShapeKind::TooLarge, 2, 7))),
-        ("print(cbind(Y, X))", row, pair, Some((ShapeKind::TooLarge, 2, 7))),
-        ("print(X %*% Y)", Shape { rows: 8192, cols: 1 }, Shape { rows: 1, cols: 8192 }, None),
         (
             "print(X %*% Y)",
-            Shape { rows: 8192, cols: 1 },
-            Shape { rows: 1, cols: 8193 },
+            column,
+            pair,
+            Some((ShapeKind::TooLarge, 2, 9)),
+        ),
+        (
+            "print(rbind(X, X))",
+            column,
+            pair,
+            Some((ShapeKind::TooLarge, 2, 7)),
+        ),
+        (
+            "print(cbind(X, X))",
+            column,
+            pair,
+            Some((ShapeKind::TooLarge, 2, 7)),
+        ),
+        (
+            "print(cbind(Y, X))",
+            row,
+            pair,
+            Some((ShapeKind::TooLarge, 2, 7)),
+        ),
+        (
+            "print(X %*% Y)",
+            Shape {
+                rows: 8192,
+                cols: 1,
+            },
+            Shape {
+                rows: 1,
+                cols: 8192,
+            },
+            None,
+        ),
+        (
+            "print(X %*% Y)",
+            Shape {
+                rows: 8192,
+                cols: 1,
+            },
+            Shape {
+                rows: 1,
+                cols: 8193,
+            },
             Some((ShapeKind::TooLarge, 2, 9)),
         ),
     ];
