@@ -5,8 +5,8 @@ mod evaluate;
 mod first;
 #[cfg(test)]
 mod first_tests;
-mod misfit;
 mod lines;
+mod misfit;
 mod needed;
 mod script;
 mod status;
