@@ -10,10 +10,10 @@ ghost use Rattle.cla_cli.specs.Outcome.{exact_trace, factor_trace, factor_counts
 ghost use Rattle.cla_cli.specs.Parts.{ComesTo, CountsTo};
 
 use crate::first::{scale_group, sum_group};
-use crate::status::Place;
 use cla_group::{Group, Owned};
 use cla_num::{Dense, Meter, Number, OpFault, Refused};
 use cla_plain::Plain;
+use cla_script::Place;
 use std::alloc::Global;
 
 /// A script that prints nothing: an operator has a cell out of range, or memory is wanting.

@@ -17,5 +17,7 @@ mod unfinished;
 mod unread;
 mod words;
 
-pub use status::{BadKind, FileFault, Place, ScriptKind, Status, code};
+pub use cla_check::ShapeKind;
+pub use cla_script::{Place, ScriptKind};
+pub use status::{BadKind, FileFault, Status, code};
 pub use top::run;

@@ -2,10 +2,11 @@
 
 ghost use Rattle.cla_num.specs.Bits.{IsSupported};
 
-use crate::status::{BadKind, Place, ScriptKind, Status, code};
+use crate::status::{BadKind, Status, code};
 use crate::top::run;
 use cla_io::{CallKind, MemFiles, MemSink};
 use cla_num::{Int, Meter, Name, Number, OpFault, What};
+use cla_script::{Place, ScriptKind};
 use std::alloc::Global;
 use std::collections::BTreeMap;
 use std::test::Fail;
