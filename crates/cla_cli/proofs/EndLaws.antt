@@ -1,27 +1,21 @@
 -- How the endings of parts make the endings of a run.
-use Rattle.std.proofs.Common.{◌≡◌, ◌⊎◌, ℕ, ℤ, ◌+◌, ◌*◌, ◌≤◌, List, [], ◌∷◌, length, take, Option, Some, None, Result, Ok, Err, refl, sym, ap, subst, ◌∙◌, arith, inl, inr}
-use Rattle.std.specs.Prelude.{Contains, ◌⊎◌}
+use Rattle.std.proofs.Common.{◌≡◌, ℕ, ℤ, List, [], ◌∷◌, length, Option, Some, None, Ok, Err, refl, sym, ap, subst, ◌∙◌, arith, inl, inr}
 use Rattle.std.specs.Option.{option_map}
 use Rattle.std.proofs.lemmas.List.{take_all}
 use Rattle.cla_spec.specs.Files.{Told}
-use Rattle.cla_spec.specs.Effects.{Effect, Out, World, applied, IsFront, grown}
+use Rattle.cla_spec.specs.Effects.{Effect, Out, World, IsFront, grown}
 use Rattle.cla_spec.specs.Matrix.{Matrix}
 use Rattle.cla_num.specs.Counts.{Counts}
-use Rattle.cla_num.specs.declared.fault.OpFault.{OpFault}
-use Rattle.cla_num.specs.declared.fault.Memory.{Memory}
 use Rattle.cla_io.specs.State.{State, Reading}
-use Rattle.cla_io.specs.Counts.{Rose}
-use Rattle.cla_io.specs.declared.stop.Stop.{Stop}
 use Rattle.cla_io.specs.declared.stop.Stop.TheVariants as stop
 use Rattle.cla_cli.specs.declared.status.Status.{Status}
 use Rattle.cla_cli.specs.declared.status.Status.TheVariants as answer
-use Rattle.cla_cli.specs.declared.status.Place.{Place}
 use Rattle.cla_cli.specs.declared.unfinished.Unfinished.{Unfinished}
 use Rattle.cla_cli.specs.declared.unfinished.Unfinished.TheVariants as unfinished
 use Rattle.cla_cli.specs.Texts.{memory_line, usage_line, number_line, unwritable_line}
-use Rattle.cla_cli.specs.Words.{Command, RunScript, accepted_command}
-use Rattle.cla_cli.specs.Outcome.{Outcome, Trace, refused, usage_refusal, needing, evaluated, prints, fails_at, factor_trace, factor_counts, sum_outcome, run_outcome, outcome_of}
-use Rattle.cla_cli.specs.Run.{Ending, Settled, OutOfMemory, ReadFailed, WriteFailed, ending_of, IsRefusal, Written, FaultsCome, MayEnd, HasLine, HasFrontOfLine, Ends, EndsWhereTold, MissesCome, Completes, RiseByAtMost, CountsCome, CountsWhereTold, ReadsOnly, ReadsOnlyNeeded}
+use Rattle.cla_cli.specs.Words.{RunScript, accepted_command}
+use Rattle.cla_cli.specs.Outcome.{Outcome, Trace, refused, usage_refusal, prints, factor_trace, run_outcome, outcome_of}
+use Rattle.cla_cli.specs.Run.{Ending, Settled, OutOfMemory, ReadFailed, WriteFailed, ending_of, IsRefusal, Written, FaultsCome, MayEnd, HasLine, HasFrontOfLine, Ends, EndsWhereTold, Completes, RiseByAtMost, CountsCome, CountsWhereTold, ReadsOnly, ReadsOnlyNeeded}
 use Rattle.cla_cli.specs.Parts.{Comes, ComesWhereTold, HasEnding, HasCounts, HasCountsWhereTold, IsNeeded, IsNeededWhereTold, ReadsAll, ReadsAllIn, ComesTo, Prints, TellsLine, Tells}
 
 -- nothing is a front of any effects
@@ -73,9 +67,16 @@ unwritten_ends value bits (Some t) told' name old new out out' m k n same h read
     let o = run_outcome bits t name in
     let effects : o.effects ≡ Out (number_line (value n)) ∷ [] = ap (λ (x : Outcome). x.effects) h.1 ∙ ap (λ (x : Trace). x.effects) sum in
     subst (λ (t' : Option Told). ComesWhereTold {U = Unit {0}} bits name (Some t) t' old new out out' (Err unfinished.OutputUnwritten))
-    (sym same)
-    ((reads, prints.0), (Out (number_line (value n)), rw effects
-    (inl (refl, inr (prints.1.0, ap (λ (x : Option (List ℕ)). record { told = t; out = x }) prints.1.1))), prints.0, refl))
+    (sym same) (
+      (reads, prints.0),
+      (
+        Out (number_line (value n)),
+        rw effects
+            (inl (refl, inr (prints.1.0, ap (λ (x : Option (List ℕ)). record { told = t; out = x }) prints.1.1))),
+        prints.0,
+        refl,
+      ),
+    )
 
 none_counted : (counts before : Counts) → RiseByAtMost counts before before
 none_counted counts before = record

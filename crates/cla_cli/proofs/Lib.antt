@@ -1,3 +1,4 @@
+pub mod Examples
 pub mod FactorLaws
 pub mod ScriptLaws
 pub mod NeededLaws

@@ -1,12 +1,12 @@
 -- What a reader answers of a file that was opened.
-use Rattle.std.proofs.Common.{false, ◌≡◌, ℕ, ◌<◌, ◌≤◌, List, [], length, Option, Some, None, Ok, Err, Vec, Global, refl, ap, ◌∙◌, arith}
+use Rattle.std.proofs.Common.{false, ◌≡◌, ℕ, ◌<◌, ◌≤◌, List, [], length, Option, Some, None, Ok, Err, Vec, Global, refl, ap, ◌∙◌}
 use Rattle.std.specs.FinMap as fin
 use Rattle.cla_spec.specs.Files.{Told}
 use Rattle.cla_spec.specs.Matrix.{Matrix}
 use Rattle.cla_spec.specs.ArrayFile.{array_in}
 use Rattle.cla_spec.proofs.ArrayFileLaws.{array_in-sound, array_in-complete}
 use Rattle.cla_io.specs.State.{Reading, left_where_told}
-use Rattle.cla_io.specs.Lines.{Progress, ahead_of, TakesWhole, TakesWholeWhereTold}
+use Rattle.cla_io.specs.Lines.{Progress, ahead_of, TakesWholeWhereTold}
 use Rattle.cla_io.specs.declared.stop.InFault.TheVariants as input
 use Rattle.cla_mtx.specs.declared.fault.MtxFault.{MtxFault}
 use Rattle.cla_mtx.specs.declared.fault.MtxFault.TheVariants.{Banner}

@@ -1,7 +1,6 @@
 -- What the reads of a command say of its outcome.
-use Rattle.std.proofs.Common.{◌≡◌, ℕ, ℤ, pos, ◌<◌, ◌≤◌, List, [], ◌∷◌, length, nat_le, Bool, true, false, Option, Some, None, Result, Ok, Err, refl, sym, ap, subst, ◌∙◌, arith}
+use Rattle.std.proofs.Common.{◌≡◌, ℕ, ℤ, ◌<◌, ◌≤◌, List, [], ◌∷◌, length, nat_le, false, Option, Some, None, Result, Ok, Err, refl, sym, ap, subst, ◌∙◌, arith}
 use Rattle.std.specs.Prelude.{Contains}
-use Rattle.std.specs.Option.{option_map}
 use Rattle.std.specs.FinMap as fin
 use Rattle.std.proofs.lemmas.Bool.{le-leb}
 use Rattle.std.proofs.lemmas.Bool.Decides.{nat_tests}
@@ -9,10 +8,8 @@ use Rattle.cla_spec.specs.Files.{Told}
 use Rattle.cla_spec.specs.Matrix.{Matrix}
 use Rattle.cla_spec.specs.ArrayFile.{array_in}
 use Rattle.cla_spec.specs.SumScript.{SumScript, sum_script_in}
-use Rattle.cla_io.specs.State.{State, Reading}
-use Rattle.cla_io.specs.Counts.{Rose}
+use Rattle.cla_io.specs.State.{Reading}
 use Rattle.cla_mtx.specs.declared.fault.MtxFault.{MtxFault}
-use Rattle.cla_mtx.specs.declared.fault.MtxFault.TheVariants.{Banner}
 use Rattle.cla_cli.specs.declared.status.Status.{Status}
 use Rattle.cla_cli.specs.declared.status.Status.TheVariants as answer
 use Rattle.cla_cli.specs.declared.status.FileFault.TheVariants as file
@@ -22,11 +19,9 @@ use Rattle.cla_cli.specs.declared.unread.ScriptFault.{ScriptFault}
 use Rattle.cla_cli.specs.declared.unread.ScriptFault.TheVariants.{TooLong, Form}
 use Rattle.cla_cli.specs.declared.unfinished.Unfinished.{Unfinished}
 use Rattle.cla_cli.specs.declared.unfinished.Unfinished.TheVariants as unfinished
-use Rattle.cla_cli.specs.Texts.{missing_line, unreadable_line}
-use Rattle.cla_cli.specs.Outcome.{Outcome, Refusal, refused, needing, missing_refusal, limit_refusal, script_refusal, table_refusal, script_limit, table_limit, unless_missing, unless_refused, checked_table, sum_outcome, tables_outcome, run_outcome}
-use Rattle.cla_cli.specs.Run.{IsRefusal, MissesCome}
-use Rattle.cla_cli.specs.Needed.{HasUnreadCause, ReadsNoOther, ReadsScript, ReadsTable}
-use Rattle.cla_cli.specs.Parts.{TellsUnread, refusal_of_script, refusal_of_table, HasEnding, IsNeeded, IsNeededWhereTold, ReadsAll}
+use Rattle.cla_cli.specs.Outcome.{Outcome, Refusal, refused, needing, missing_refusal, limit_refusal, script_refusal, table_refusal, script_limit, table_limit, unless_missing, unless_refused, checked_table, tables_outcome, run_outcome}
+use Rattle.cla_cli.specs.Needed.{ReadsNoOther, ReadsScript, ReadsTable}
+use Rattle.cla_cli.specs.Parts.{TellsUnread, refusal_of_script, refusal_of_table, IsNeeded, IsNeededWhereTold, ReadsAll}
 
 -- what a refusal leaves, whatever the files that were read
 refused_as : (o : Outcome) (refusal : Refusal) (names : List (List ℕ)) (status : Status) (line : Option (List ℕ))
@@ -107,9 +102,12 @@ table_unread_in value bits told name script (unread.Refused fault) (unfinished.R
     (script_good bits told name s.0 script s.1 s.2.0 s.2.1
     ∙ ap (λ (o : Outcome). needing name (needing script.table o)) (table_of_no_form bits told script h.0 h.1 h.2.1))
     (t.0 ∙ ap (λ (f : MtxFault). answer.BadFile (file.Mtx f)) h.2.0) t.1
-table_unread_in value bits told name script unread.Fault (unfinished.Unread line) s h t =
-    (script.table, second_needed (run_outcome bits told name) name script.table _
-    (ap (λ (o : Outcome). o.needed) (script_good bits told name s.0 script s.1 s.2.0 s.2.1)), t)
+table_unread_in value bits told name script unread.Fault (unfinished.Unread line) s h t = (
+  script.table,
+  second_needed (run_outcome bits told name) name script.table _
+      (ap (λ (o : Outcome). o.needed) (script_good bits told name s.0 script s.1 s.2.0 s.2.1)),
+  t,
+)
 table_unread_in value bits told name script u r s h t = absurd t
 
 table_of : (bits : ℕ) (told : Told) (told' : Option Told) (table name : List ℕ) (result : Result Matrix (Unread MtxFault))

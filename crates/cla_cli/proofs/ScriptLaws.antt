@@ -76,7 +76,7 @@ script_found bits text script few short read print factored end = sum_script_in-
   factored = factored;
   short = short;
   lines = both_lines text (read_line script.table) (print_line script.factor) read.0 (λ e. absurd (cc)) print (print_some script.factor)
-  end;
+      end;
 })
 
 -- the lines of a text of two

@@ -7,5 +7,6 @@ pub mod Factor
 pub mod Outcome
 pub mod Script
 pub mod Needed
+pub mod WholeScript
 pub mod Run
 pub mod Parts

@@ -13,10 +13,10 @@ use Rattle.cla_num.specs.declared.fault.OpFault.{OpFault}
 use Rattle.cla_mtx.specs.declared.fault.MtxFault.TheVariants as mtx
 use Rattle.cla_cli.specs.declared.status.Status.{Status}
 use Rattle.cla_cli.specs.declared.status.Status.TheVariants.{Done, Usage, Missing, BadScript, BadFile, Limit, Operator}
-use Rattle.cla_cli.specs.declared.status.Place.{Place}
+use Rattle.cla_grammar.specs.declared.place.Place.{Place}
 use Rattle.cla_cli.specs.declared.status.BadKind.{BadKind}
 use Rattle.cla_cli.specs.declared.status.BadKind.TheVariants as kind
-use Rattle.cla_cli.specs.declared.status.ScriptKind.TheVariants as script
+use Rattle.cla_grammar.specs.declared.words.ScriptKind.TheVariants as script
 use Rattle.cla_cli.specs.declared.status.FileFault.TheVariants as file
 use Rattle.cla_cli.specs.Words.{Command, RunScript, accepted_command}
 use Rattle.cla_cli.specs.Texts.{number_line, usage_line, missing_line, limit_line, script_line, operator_line}

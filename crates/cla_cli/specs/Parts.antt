@@ -1,11 +1,10 @@
 -- What the parts of the top call do.
-use Rattle.std.specs.Prelude.{◌≡◌, ℕ, ℤ, ◌+◌, ◌*◌, List, [], take, Option, Some, None, Contains, ◌⊎◌, Result, Ok, Err}
+use Rattle.std.specs.Prelude.{◌≡◌, ℕ, ℤ, List, [], take, Option, Some, None, Contains, ◌⊎◌, Result, Ok, Err}
 use Rattle.std.specs.Option.{option_map}
 use Rattle.cla_spec.specs.Files.{Told}
 use Rattle.cla_spec.specs.Effects.{Out, grown}
 use Rattle.cla_spec.specs.Matrix.{Matrix}
 use Rattle.cla_num.specs.Counts.{Counts}
-use Rattle.cla_num.specs.declared.fault.Memory.{Memory}
 use Rattle.cla_io.specs.State.{State, Reading}
 use Rattle.cla_io.specs.Counts.{Rose}
 use Rattle.cla_io.specs.declared.stop.Stop.{Stop}
@@ -23,7 +22,7 @@ use Rattle.cla_cli.specs.declared.unfinished.Unfinished.TheVariants as unfinishe
 use Rattle.cla_cli.specs.declared.evaluate.Failed.{Failed}
 use Rattle.cla_cli.specs.declared.evaluate.Failed.TheVariants as failed
 use Rattle.cla_cli.specs.Texts.{memory_line, unreadable_line, unwritable_line, missing_line, number_line}
-use Rattle.cla_cli.specs.Outcome.{Outcome, Refusal, Trace, needing, limit_refusal, script_refusal, table_refusal, script_limit, prints, fails_at, factor_trace, factor_counts, sum_outcome, run_outcome}
+use Rattle.cla_cli.specs.Outcome.{Outcome, Refusal, Trace, needing, limit_refusal, script_refusal, script_limit, prints, fails_at, sum_outcome, run_outcome}
 use Rattle.cla_cli.specs.Run.{Settled, OutOfMemory, ReadFailed, WriteFailed, IsRefusal, Written, MayEnd, FaultsCome, MissesCome, HasLine, HasFrontOfLine, RiseBy, RiseByAtMost, AreNotBelow}
 
 -- A command is done, or why it isn't: each as one ending of its outcome.

@@ -6,8 +6,7 @@ use Rattle.cla_num.specs.Counts.{Counts}
 use Rattle.cla_io.specs.State.{State, Reading}
 use Rattle.cla_io.specs.Counts.{Rose}
 use Rattle.cla_cli.specs.declared.status.Status.{Status}
-use Rattle.cla_cli.specs.declared.status.Status.TheVariants.{Done, Memory, Usage, Missing, ReadFault, WriteFault, BadScript, BadFile, Limit, Operator}
-use Rattle.cla_cli.specs.Words.{accepted_command}
+use Rattle.cla_cli.specs.declared.status.Status.TheVariants.{Done, Memory, Usage, Missing, ReadFault, WriteFault}
 use Rattle.cla_cli.specs.Texts.{memory_line, unreadable_line, unwritable_line}
 use Rattle.cla_cli.specs.Outcome.{Outcome, outcome_of}
 

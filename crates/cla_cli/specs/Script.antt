@@ -1,5 +1,5 @@
 -- Sum scripts, line by line.
-use Rattle.std.specs.Prelude.{◌≡◌, ◌≢◌, ℕ, ℤ, List, Option, Some, None, true, Result, Ok, Err}
+use Rattle.std.specs.Prelude.{◌≡◌, ◌≢◌, ℕ, ℤ, List, Option, true, Result, Ok, Err}
 use Rattle.cla_num.specs.declared.fault.Memory.{Memory}
 use Rattle.cla_spec.specs.SumScript.{SumScript, is_text, is_factor, read_line, print_line, sum_script_in}
 use Rattle.cla_cli.specs.Factor.{factor_of, IsFactor}

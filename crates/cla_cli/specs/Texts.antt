@@ -5,11 +5,13 @@ use Rattle.cla_spec.specs.Effects.{Effect, Out, File}
 use Rattle.cla_num.specs.declared.fault.What.{What}
 use Rattle.cla_num.specs.declared.fault.What.TheVariants.{Range, Zero}
 use Rattle.cla_num.specs.declared.fault.OpFault.{OpFault}
-use Rattle.cla_cli.specs.declared.status.Place.{Place}
+use Rattle.cla_grammar.specs.declared.place.Place.{Place}
+use Rattle.cla_grammar.specs.declared.words.ScriptKind.{ScriptKind}
+use Rattle.cla_grammar.specs.declared.words.ScriptKind.TheVariants as kind
+use Rattle.cla_check.specs.declared.fault.ShapeKind.{ShapeKind}
+use Rattle.cla_check.specs.declared.fault.ShapeKind.TheVariants as shape
 use Rattle.cla_cli.specs.declared.status.BadKind.{BadKind}
-use Rattle.cla_cli.specs.declared.status.BadKind.TheVariants.{Script}
-use Rattle.cla_cli.specs.declared.status.ScriptKind.{ScriptKind}
-use Rattle.cla_cli.specs.declared.status.ScriptKind.TheVariants.{Syntax}
+use Rattle.cla_cli.specs.declared.status.BadKind.TheVariants.{Script, Shape, Unbuilt}
 
 -- a number on a line of its own
 abbrev pub number_line : ℤ → List ℕ
@@ -36,11 +38,26 @@ abbrev pub limit_line : List ℕ → ℕ → List ℕ
 limit_line name bytes = codes "limit " ++ name ++ codes ": more than " ++ decimal_of (pos bytes) ++ codes " bytes\n"
 
 -- the name of a kind
-abbrev pub kind_text : ScriptKind → List ℕ
-kind_text Syntax = codes "Syntax"
+abbrev pub script_kind_text : ScriptKind → List ℕ
+script_kind_text kind.Char = codes "Char"
+script_kind_text kind.Text = codes "Text"
+script_kind_text kind.Long = codes "Long"
+script_kind_text kind.Literal = codes "Literal"
+script_kind_text kind.Exponent = codes "Exponent"
+script_kind_text kind.Syntax = codes "Syntax"
+script_kind_text kind.Clash = codes "Clash"
+
+abbrev pub shape_kind_text : ShapeKind → List ℕ
+shape_kind_text shape.Unknown = codes "Unknown"
+shape_kind_text shape.Operand = codes "Operand"
+shape_kind_text shape.Shapes = codes "Shapes"
+shape_kind_text shape.Bounds = codes "Bounds"
+shape_kind_text shape.TooLarge = codes "TooLarge"
 
 abbrev pub bad_kind_text : BadKind → List ℕ
-bad_kind_text (Script kind) = kind_text kind
+bad_kind_text (Script kind) = script_kind_text kind
+bad_kind_text (Shape kind) = shape_kind_text kind
+bad_kind_text Unbuilt = codes "Unbuilt"
 
 abbrev pub script_line : Place → BadKind → List ℕ
 script_line place kind = codes "script " ++ decimal_of (pos place.line) ++ codes ":" ++ decimal_of (pos place.col) ++ codes ": " ++

@@ -10,10 +10,10 @@ ghost use Rattle.cla_cli.specs.Outcome.{exact_trace, factor_trace, factor_counts
 ghost use Rattle.cla_cli.specs.Parts.{ComesTo, CountsTo};
 
 use crate::first::{scale_group, sum_group};
-use crate::status::Place;
 use cla_group::{Group, Owned};
 use cla_num::{Dense, Meter, Number, OpFault, Refused};
 use cla_plain::Plain;
+use cla_script::Place;
 use std::alloc::Global;
 
 /// A script that prints nothing: an operator has a cell out of range, or memory is wanting.
@@ -52,8 +52,7 @@ fn evaluate_group<N: Number, G: Owned<N> + Drop>(
     requires room { AreBelow run_bound meter.old }
     ensures sum { (m : Matrix) → GroupStandsFor (G.columns table.now) (G.codes table.now) (G.dictionary table.now) m →
         ComesTo N.value (factor_trace N.BITS (option_map N.value factor) m) result }
-    ensures counts {
-        CountsTo (factor_counts (option_map N.value factor) (length (G.dictionary table.now) * G.columns table.now))
+    ensures counts { CountsTo (factor_counts (option_map N.value factor) (length (G.dictionary table.now) * G.columns table.now))
         meter.old meter.new result }
 {
     let Some(k) = factor else {
@@ -73,11 +72,9 @@ fn evaluate_group<N: Number, G: Owned<N> + Drop>(
 fn summed<N: Number, G: Group<N>>(g: &G, meter: &mut Meter) -> Result<N, Failed>
     requires bits { IsSupported N.BITS }
     requires room { AreBelow kernel_bound meter.old }
-    ensures sum {
-        let cell = cell_of (G.codes g.now) (G.dictionary g.now) in
+    ensures sum { let cell = cell_of (G.codes g.now) (G.dictionary g.now) in
         ComesTo N.value (exact_trace N.BITS (sum_of_entries (length (G.codes g.now)) (G.columns g.now) cell)) result }
-    ensures counts {
-        meter.new ≡ record meter.old { mults = meter.old.mults + length (G.dictionary g.now) * G.columns g.now } }
+    ensures counts { meter.new ≡ record meter.old { mults = meter.old.mults + length (G.dictionary g.now) * G.columns g.now } }
 {
     match sum_group(g, meter) {
         Ok(sum) => Ok(sum),

@@ -5,8 +5,8 @@ mod evaluate;
 mod first;
 #[cfg(test)]
 mod first_tests;
-mod misfit;
 mod lines;
+mod misfit;
 mod needed;
 mod script;
 mod status;
@@ -17,5 +17,7 @@ mod unfinished;
 mod unread;
 mod words;
 
-pub use status::{BadKind, FileFault, Place, ScriptKind, Status, code};
+pub use cla_check::ShapeKind;
+pub use cla_script::{Place, ScriptKind};
+pub use status::{BadKind, FileFault, Status, code};
 pub use top::run;

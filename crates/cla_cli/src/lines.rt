@@ -2,10 +2,12 @@
 
 ghost use Rattle.std.specs.Prelude.{◌≡◌, ◌≤◌, ◌++◌, IfOk, OnOk, codes, take};
 ghost use Rattle.cla_spec.specs.Numbers.{decimal_of};
-ghost use Rattle.cla_cli.specs.Texts.{number_line, missing_line, unreadable_line, limit_line, script_line, bad_kind_text, operator_line, reason_text};
+ghost use Rattle.cla_cli.specs.Texts.{number_line, missing_line, unreadable_line, limit_line, script_line, bad_kind_text, script_kind_text, shape_kind_text, operator_line, reason_text};
 
-use crate::status::{BadKind, Place, ScriptKind};
+use crate::status::BadKind;
+use cla_check::ShapeKind;
 use cla_num::{Memory, Number, OpFault, What, Wide};
+use cla_script::{Place, ScriptKind};
 use cla_text::Text;
 use std::alloc::Global;
 
@@ -93,7 +95,35 @@ fn kind_text(kind: BadKind) -> &'static [u8]
     ensures { result.now ≡ bad_kind_text kind }
 {
     match kind {
-        BadKind::Script(ScriptKind::Syntax) => b"Syntax",
+        BadKind::Script(kind) => script_kind_text(kind),
+        BadKind::Shape(kind) => shape_kind_text(kind),
+        BadKind::Unbuilt => b"Unbuilt",
+    }
+}
+
+fn script_kind_text(kind: ScriptKind) -> &'static [u8]
+    ensures { result.now ≡ script_kind_text kind }
+{
+    match kind {
+        ScriptKind::Char => b"Char",
+        ScriptKind::Text => b"Text",
+        ScriptKind::Long => b"Long",
+        ScriptKind::Literal => b"Literal",
+        ScriptKind::Exponent => b"Exponent",
+        ScriptKind::Syntax => b"Syntax",
+        ScriptKind::Clash => b"Clash",
+    }
+}
+
+fn shape_kind_text(kind: ShapeKind) -> &'static [u8]
+    ensures { result.now ≡ shape_kind_text kind }
+{
+    match kind {
+        ShapeKind::Unknown => b"Unknown",
+        ShapeKind::Operand => b"Operand",
+        ShapeKind::Shapes => b"Shapes",
+        ShapeKind::Bounds => b"Bounds",
+        ShapeKind::TooLarge => b"TooLarge",
     }
 }
 

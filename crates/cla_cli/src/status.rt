@@ -3,8 +3,10 @@
 ghost use Rattle.std.specs.Prelude.{◌≡◌};
 ghost use Rattle.cla_cli.specs.Codes.{code_of};
 
+use cla_check::ShapeKind;
 use cla_mtx::MtxFault;
 use cla_num::OpFault;
+use cla_script::{Place, ScriptKind};
 use thiserror::Error;
 
 /// What a command line comes to. [`code`] gives the exit status of the process.
@@ -32,23 +34,12 @@ pub enum Status {
     Operator { place: Place, fault: OpFault },
 }
 
-/// A place in a script: its line and its column, counted in bytes from 1.
-#[derive(Clone, Copy, Debug, PartialEq, Eq)]
-pub struct Place {
-    pub line: u32,
-    pub col: u32,
-}
-
-/// Why a script is refused.
+/// Why a script is refused: its text, its shapes, or a statement that doesn't run yet.
 #[derive(Clone, Copy, Debug, PartialEq, Eq)]
 pub enum BadKind {
     Script(ScriptKind),
-}
-
-/// Why the text of a script is refused.
-#[derive(Clone, Copy, Debug, PartialEq, Eq)]
-pub enum ScriptKind {
-    Syntax,
+    Shape(ShapeKind),
+    Unbuilt,
 }
 
 /// Why a table is refused.

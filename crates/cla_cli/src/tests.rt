@@ -2,10 +2,11 @@
 
 ghost use Rattle.cla_num.specs.Bits.{IsSupported};
 
-use crate::status::{BadKind, Place, ScriptKind, Status, code};
+use crate::status::{BadKind, Status, code};
 use crate::top::run;
 use cla_io::{CallKind, MemFiles, MemSink};
 use cla_num::{Int, Meter, Name, Number, OpFault, What};
+use cla_script::{Place, ScriptKind};
 use std::alloc::Global;
 use std::collections::BTreeMap;
 use std::test::Fail;
@@ -149,7 +150,10 @@ fn words(rt: HostRuntime) -> Result<(), Fail> {
         let came = ran::<Int<47>>(rt.alloc(), words, &world)?;
         assert_eq!(rt; came.status, Status::Usage, "at {words:?}");
         assert!(rt; came.out.is_empty());
-        assert_eq!(rt; came.err.as_slice(), b"usage: cla COMMAND WORDS\n".as_slice());
+        assert_eq!(rt;
+            came.err.as_slice(),
+            b"usage: cla COMMAND WORDS\n".as_slice()
+        );
     }
     Ok(())
 }
@@ -300,7 +304,11 @@ fn refused_factors(rt: HostRuntime) -> Result<(), Fail> {
         let came = ran::<Int<47>>(rt.alloc(), &["run", "s"], &World::of(&script, SQUARE))?;
         assert_eq!(rt; came.code, 6, "at {factor}");
         assert!(rt; came.out.is_empty(), "at {factor}");
-        assert_eq!(rt; came.err.as_slice(), b"script 1:1: Syntax\n".as_slice(), "at {factor}");
+        assert_eq!(rt;
+            came.err.as_slice(),
+            b"script 1:1: Syntax\n".as_slice(),
+            "at {factor}"
+        );
     }
     let script = product_script(rt.alloc(), "X * 128")?;
     let came = ran::<Int<7>>(rt.alloc(), &["run", "s"], &World::of(&script, SQUARE))?;

@@ -15,13 +15,14 @@ use crate::lines::{
     limit_line, missing_line, operator_line, put_number_line, script_line, unreadable_line,
 };
 use crate::needed::{SCRIPT_BYTES, read_script, read_table};
-use crate::status::{BadKind, FileFault, Place, ScriptKind, Status};
+use crate::status::{BadKind, FileFault, Status};
 use crate::unfinished::Unfinished;
 use crate::unread::{ScriptFault, Unread};
 use crate::words::accepted;
 use cla_io::{Files, Sink, Stop, put_all};
 use cla_mtx::MtxFault;
 use cla_num::{Dense, Meter, Number};
+use cla_script::{Place, ScriptKind};
 use std::alloc::Global;
 
 /// Does all that the program does on these words, the command line's after the program's name.

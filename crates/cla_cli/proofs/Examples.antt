@@ -1,0 +1,24 @@
+-- Worked examples of what is printed, computed.
+use Rattle.std.specs.Prelude.{◌≡◌, pos, negsuc, [], ◌∷◌, codes, Some, None, Ok, refl}
+use Rattle.std.specs.Fmt.{digits}
+use Rattle.cla_spec.specs.Matrix.{Matrix}
+use Rattle.cla_grammar.specs.declared.place.Place.{Place}
+use Rattle.cla_grammar.specs.declared.words.Call.TheVariants as call
+use Rattle.cla_grammar.specs.Tree.{Named, Apply}
+use Rattle.cla_cli.specs.Outcome.{place_at}
+use Rattle.cla_cli.specs.WholeScript.{Scalar, Table, printed, value_of}
+
+abbrev square : Matrix
+square = record { rows = 2; cols = 2; cells = pos 1 ∷ negsuc 1 ∷ pos 3 ∷ pos 4 ∷ [] }
+
+pub table_is : printed (Table square) ≡ codes "1 -2\n3 4\n"
+unfolding digits
+table_is = refl
+
+pub sum_is : value_of 47 ((codes "X", square) ∷ []) (Apply (place_at 2 7) call.Sum (Named (place_at 2 11) (codes "X"))) ≡ Some
+    (Ok (Scalar (pos 6)))
+sum_is = refl
+
+pub transpose_does_not_run : value_of 47 ((codes "X", square) ∷ [])
+    (Apply (place_at 2 7) call.Transpose (Named (place_at 2 9) (codes "X"))) ≡ None
+transpose_does_not_run = refl
