@@ -16,9 +16,11 @@ loop-part-preserved g c =
     let done = c.loop-part.parts.items in
     let so_far = c.loop-part.invariant in
     rw c.in_ok-push.ensures.items (record {
-      outlines = mapped_more (outline any_columns any_codes) (outline any_columns any_codes) items i c.part-item.result done copy c.loop-part-test.true c.part-item.is so_far.outlines more.outline;
+      outlines = mapped_more (outline any_columns any_codes) (outline any_columns any_codes) items i c.part-item.result done copy
+          c.loop-part-test.true c.part-item.is so_far.outlines more.outline;
       parts = mapped_more (part_of any_codes any_dictionary)
-          (part_of any_codes any_dictionary) items i c.part-item.result done copy c.loop-part-test.true c.part-item.is so_far.parts more.part;
+          (part_of any_codes any_dictionary) items i c.part-item.result done copy c.loop-part-test.true c.part-item.is so_far.parts
+          more.part;
       forms =
           mapped_more (λ part. any_form part.group)
           (λ part. any_form part.group) items i c.part-item.result done copy c.loop-part-test.true c.part-item.is so_far.forms more.form;
@@ -31,7 +33,8 @@ all_parts f items copies i past so_far = so_far ∙ take_all i (map f items) (rw
 
 pub with_parts-requires : goal.with_parts-requires
 with_parts-requires g c =
-    rw (sym c.parts-part-items.ensures.parts) (all_parts (outline any_columns any_codes) c.parts-part-items.result.now _ c.loop-part.part-index c.loop-part-test.false c.loop-part.invariant.outlines)
+    rw (sym c.parts-part-items.ensures.parts) (all_parts (outline any_columns any_codes) c.parts-part-items.result.now _
+    c.loop-part.part-index c.loop-part-test.false c.loop-part.invariant.outlines)
 
 pub returns-clause-layout : goal.returns-clause-layout
 returns-clause-layout g c =
@@ -42,5 +45,6 @@ returns-clause-layout g c =
 
 pub returns-clause-forms : goal.returns-clause-forms
 returns-clause-forms g c =
-    let all = all_parts (λ part. any_form part.group) c.parts-part-items.result.now _ c.loop-part.part-index c.loop-part-test.false c.loop-part.invariant.forms in
+    let all = all_parts (λ part. any_form part.group) c.parts-part-items.result.now _ c.loop-part.part-index c.loop-part-test.false
+    c.loop-part.invariant.forms in
     rw c.with_parts.ensures (all ∙ ap (map (λ part. any_form part.group)) c.parts-part-items.ensures.parts)

@@ -27,7 +27,8 @@ from_rows-requires g c =
 
 pub new-requires : goal.new-requires
 new-requires g c =
-    let whole = loose_whole g.N.Number.BITS g.N.Number.value g.met.N.Number.in_range c.args.m c.from.result.items c.from.ensures.cells c.from.ensures.shape in
+    let whole = loose_whole g.N.Number.BITS g.N.Number.value g.met.N.Number.in_range c.args.m c.from.result.items
+    c.from.ensures.cells c.from.ensures.shape in
     subst (IsWhole g.N.Number.BITS) (sym (layout g c)) whole
 
 pub returns-clause-layout : goal.returns-clause-layout

@@ -13,5 +13,7 @@ loop-code-preserved c =
     record {
       size = ap length written ∙ size ∙ whole ∙ c.loop-code.invariant.size;
       names = rw written c.in_ok-name_of.ensures.names;
-      rows = rw c.in_ok-push.ensures.items (renamed_more c.loop-code.code-index c.args.codes.now c.loop-code.names.items c.loop-code.order.items c.name_of.new.order.items c.in_ok-name_of.field-0 c.loop-code.invariant.rows c.in_ok-name_of.ensures.name);
+      rows = rw c.in_ok-push.ensures.items (renamed_more c.loop-code.code-index c.args.codes.now c.loop-code.names.items
+          c.loop-code.order.items c.name_of.new.order.items c.in_ok-name_of.field-0 c.loop-code.invariant.rows
+          c.in_ok-name_of.ensures.name);
     }

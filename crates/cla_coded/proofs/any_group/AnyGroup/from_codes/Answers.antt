@@ -6,11 +6,24 @@ use Rattle.cla_coded.proofs.any_group.AnyGroup.from_codes.Goals as goal
 
 pub from_rows-requires : goal.from_rows-requires
 from_rows-requires g c =
-    record { rows = whole_rows (length c.args.codes.now) c.args.width c.in_ok-rows-in-Plain.rows.items (record { a_row = c.requires.a_row; a_col = c.requires.a_column; count = c.in_ok-rows-in-Plain.ensures.count; few = c.requires.few_cells }) }
+    record {
+      rows = whole_rows (length c.args.codes.now) c.args.width c.in_ok-rows-in-Plain.rows.items
+          (record {
+            a_row = c.requires.a_row;
+            a_col = c.requires.a_column;
+            count = c.in_ok-rows-in-Plain.ensures.count;
+            few = c.requires.few_cells;
+          });
+    }
 
 pub returns-in_ok-rows-in-Plain : goal.returns-in_ok-rows-in-Plain
 returns-in_ok-rows-in-Plain g c =
-    let shaped : IsShaped (length c.args.codes.now) c.args.width c.in_ok-rows-in-Plain.rows.items = record { a_row = c.requires.a_row; a_col = c.requires.a_column; count = c.in_ok-rows-in-Plain.ensures.count; few = c.requires.few_cells } in
+    let shaped : IsShaped (length c.args.codes.now) c.args.width c.in_ok-rows-in-Plain.rows.items = record {
+      a_row = c.requires.a_row;
+      a_col = c.requires.a_column;
+      count = c.in_ok-rows-in-Plain.ensures.count;
+      few = c.requires.few_cells;
+    } in
     let rows = rows_of_shape (length c.args.codes.now) c.args.width c.in_ok-rows-in-Plain.rows.items shaped in
     rw c.in-Plain.is (record {
       form_is = refl;

@@ -20,5 +20,6 @@ of_codes-requires g c =
     let whole : vec_len c.args.values ≡ length c.args.values.items = search rules in
     let n = length c.args.values.items / c.args.width in
     let made = rw (c.len.ensures, whole) at c.new.ensures in
-    let group = group_with_values g.N.Number.BITS g.N.Number.value g.met.N.Number.in_range c.args.width n c.args.codes.now c.args.values.items c.requires.codes in
+    let group = group_with_values g.N.Number.BITS g.N.Number.value g.met.N.Number.in_range c.args.width n c.args.codes.now
+    c.args.values.items c.requires.codes in
     rw made (omega arith, (group, rw (tuples_count c.args.width n (map g.N.Number.value c.args.values.items)) c.requires.fits))
