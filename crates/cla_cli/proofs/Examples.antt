@@ -2,7 +2,6 @@
 use Rattle.std.specs.Prelude.{◌≡◌, pos, negsuc, [], ◌∷◌, codes, Some, None, Ok, refl}
 use Rattle.std.specs.Fmt.{digits}
 use Rattle.cla_spec.specs.Matrix.{Matrix}
-use Rattle.cla_grammar.specs.declared.place.Place.{Place}
 use Rattle.cla_grammar.specs.declared.words.Call.TheVariants as call
 use Rattle.cla_grammar.specs.Tree.{Named, Apply}
 use Rattle.cla_cli.specs.Outcome.{place_at}
