@@ -250,9 +250,18 @@ u32 mixed(u32 place) {
     return second ^ second >> 16;
 }
 
-u32 code_at(u32 place, u32 tuples, u32 listed) {
-    if (mixed(place) % 1000 >= listed) return 0;
-    return mixed(place + 0x9e3779b9U) % tuples + 1;
+// A code from 1 on for `listed` of 1000 places, which the first of them have in turn, and 0 for the others; each place
+// has `rows_a_place` rows.
+vector<u32> codes_of_rows(u32 rows, u32 rows_a_place, u32 tuples, u32 listed) {
+    vector<u32> codes(rows);
+    u32 named = 0;
+    for (u32 place = 0; place * rows_a_place < rows; ++place) {
+        if (mixed(place) % 1000 >= listed) continue;
+        const u32 code = named < tuples ? ++named : mixed(place + 0x9e3779b9U) % tuples + 1;
+        const u32 first = place * rows_a_place;
+        std::fill(codes.begin() + first, codes.begin() + std::min(rows, first + rows_a_place), code);
+    }
+    return codes;
 }
 
 vector<i64> multiples(u32 count, u32 factor) {
@@ -340,8 +349,7 @@ u32 number(const char *word) { return static_cast<u32>(std::strtoul(word, nullpt
 int main(int count, char **words) {
     if (count != 7) return 2;
     const Task task = {words[1], number(words[2]), number(words[3]), number(words[4]), number(words[5]), number(words[6])};
-    vector<u32> codes(task.rows);
-    for (u32 i = 0; i < task.rows; ++i) codes[i] = code_at(task.kind == "runs" ? i / 16 : i, task.tuples, task.listed);
+    const vector<u32> codes = codes_of_rows(task.rows, task.kind == "runs" ? 16 : 1, task.tuples, task.listed);
     if (task.kind == "plain") return run<PlainRows>(task, codes);
     if (task.kind == "offsets") return run<OffsetRows>(task, codes);
     if (task.kind == "runs") return run<RunRows>(task, codes);

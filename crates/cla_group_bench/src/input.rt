@@ -30,27 +30,40 @@ fn mixed(place: u32) -> u32 {
     second ^ second >> 16
 }
 
-// The code of the rows in this place: 0, or a number from 1 to `tuples`.
-fn code_at(task: &Task, place: u32) -> u32 {
-    if mixed(place) % 1000 >= task.listed {
+// The code of the rows in this place: 0, or a number from 1 to `tuples`. `greatest` is the greatest code
+// before: the first places have the tuples in turn, so that each has a row.
+fn code_at(task: &Task, place: u32, greatest: u32) -> u32 {
+    if mixed(place) % 1000 >= task.listed || task.tuples == 0 {
         return 0;
     }
-    match mixed(place.wrapping_add(0x9e37_79b9)).checked_rem(task.tuples) {
-        Some(tuple) => tuple.wrapping_add(1),
-        None => 0,
+    if greatest < task.tuples {
+        return greatest + 1;
     }
+    (mixed(place.wrapping_add(0x9e37_79b9)) % task.tuples).wrapping_add(1)
+}
+
+// So many more rows with this code.
+fn push_rows(code: u32, count: u32, codes: &mut Vec<u32>) -> Result<(), Memory> {
+    for _ in 0..count {
+        codes.push(code)?;
+    }
+    Ok(())
 }
 
 /// The code of each row.
 pub fn codes_of_rows(alloc: Global, task: &Task) -> Result<Vec<u32>, Memory> {
-    let mut codes = Vec::with_capacity(alloc, task.rows as usize)?;
     let rows_a_place = match task.kind {
         Kind::Runs => RUN_ROWS,
         _ => 1,
     };
-    for row in 0..task.rows {
-        codes.push(code_at(task, row / rows_a_place))?;
+    let mut codes = Vec::with_capacity(alloc, task.rows as usize + RUN_ROWS as usize)?;
+    let mut greatest = 0;
+    for place in 0..task.rows.div_ceil(rows_a_place) {
+        let code = code_at(task, place, greatest);
+        push_rows(code, rows_a_place, &mut codes)?;
+        greatest = greatest.max(code);
     }
+    codes.truncate(task.rows as usize);
     Ok(codes)
 }
 
