@@ -3,6 +3,8 @@ use Rattle.std.proofs.Common.{◌≡◌, ℕ, ◌+◌, ◌-◌, ◌*◌, ◌/◌
 use Rattle.std.proofs.Common.{ap, sym, ◌∙◌, arith, inl, inr}
 use Rattle.std.specs.Prelude.{min, max}
 use Rattle.std.proofs.Math.Seq.{take-add}
+use Rattle.std.proofs.lemmas.Slice.{take-put_mid}
+use borrow.Rule.Slice.PartMut.{put_mid}
 use Rattle.std.proofs.lemmas.Bool.{cases_lt}
 use Rattle.std.proofs.lemmas.List.{length-drop, get_or-take, get_or-drop, take_all, take-take, drop-take, drop-drop}
 use Rattle.cla_group.specs.Groups.{code_of}
@@ -80,3 +82,21 @@ codes_more codes a b s begin end some s_before a_before begins ends =
     let part = segment_part codes s begin m (omega (arith, begins, ends, a_before)) ∙ ap (λ (x : ℕ). take m (drop x codes)) place in
     ap (λ (xs : List ℕ). codes_to codes a b s ++ xs) (part ∙ sym (ap (take m) (drop-drop n a codes)))
     ∙ sym (take-add n m (drop a codes)) ∙ ap (λ (x : ℕ). take x (drop a codes)) size
+
+-- codes with those of segment s written behind the segments before
+pub codes_written : (codes : List ℕ) (s end : ℕ) (into segment : List ℕ) → s * segment_rows < length codes → length into ≡ length codes →
+    end ≡ min (length codes) (s * segment_rows + segment_rows) → segment ≡ segment_of codes s →
+    take (min (length codes) (s * segment_rows)) into ≡ take (min (length codes) (s * segment_rows)) codes →
+    take (min (length codes) ((s + 1) * segment_rows)) (put_mid (s * segment_rows) (end - s * segment_rows) into segment)
+    ≡ take (min (length codes) ((s + 1) * segment_rows)) codes
+codes_written codes s end into segment begins size ends is before =
+    let first = s * segment_rows in
+    let m = end - first in
+    let front : min (length codes) first ≡ first = omega (arith, begins) in
+    let whole : first + m ≡ min (length codes) ((s + 1) * segment_rows) = omega (arith, begins, ends) in
+    let cut = segment_cut codes s m (omega (arith, begins, ends)) in
+    let count : min (length codes) ((s + 1) * segment_rows) ≡ first + length segment =
+    omega (arith, ap length is, segment_size codes s, begins, ends) in
+    take-put_mid first m into segment (min (length codes) ((s + 1) * segment_rows)) count (omega (arith, begins, size))
+    ∙ ap (λ (xs : List ℕ). xs ++ segment) (rw front at before) ∙ ap (λ (xs : List ℕ). take first codes ++ xs) (is ∙ sym cut)
+    ∙ sym (take-add first m codes) ∙ ap (λ (n : ℕ). take n codes) whole

@@ -136,6 +136,10 @@ impl<N: Number> Group<N> for Offsets<N> {
         self.rows.code_at(i)
     }
 
+    fn read_codes(&self, into: &mut [u32]) {
+        self.rows.read_codes(into);
+    }
+
     fn scatter(&self, parts: &[Wide], into: &mut [Wide]) {
         self.rows.join_each::<Plus>(parts, into);
     }

@@ -147,6 +147,18 @@ impl OffsetRows {
         }
     }
 
+    /// The code of each row, in one pass over the segments. `into` has an item for each row.
+    pub fn read_codes(&self, into: &mut [u32])
+        requires { length into.old ≡ length self.now.codes }
+        ensures { into.new ≡ self.now.codes }
+    {
+        for s in 0..segment_count(self.rows) {
+            let first = s * SEGMENT_ROWS;
+            let end = self.rows.min(first + SEGMENT_ROWS);
+            self.decode(s, &mut into[first as usize..end as usize]);
+        }
+    }
+
     /// The codes of the rows from row a to before row b, in one pass over their segments.
     pub fn codes_between(&self, alloc: Global, a: u32, b: u32) -> Result<Vec<u32>, Memory>
         requires some { a < b }
