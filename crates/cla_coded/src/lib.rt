@@ -2,8 +2,6 @@
 #![tactic(auto)]
 
 mod any_group;
-#[cfg(test)]
-mod borrowed;
 mod coded;
 mod codes;
 mod dense;

@@ -2,7 +2,7 @@ use Rattle.std.proofs.Common.{◌≡◌, ◌*◌, length, map, vec_len, rules, a
 use Rattle.cla_group.specs.Dictionaries.{DictionaryOf}
 use Rattle.cla_group.proofs.Cells.{values_few}
 use Rattle.cla_group.proofs.Tuples.{tuples_count}
-use Rattle.cla_coded.proofs.borrowed.dictionary_like.Goals as goal
+use Rattle.cla_group_tests.proofs.borrowed.dictionary_like.Goals as goal
 
 pub value-requires-clause-tuple : goal.value-requires-clause-tuple
 value-requires-clause-tuple g c = let is = g.met.G.Group.laws c.args.g.now in omega (arith, is.in_tuples 0 (omega (arith, is.a_row)))

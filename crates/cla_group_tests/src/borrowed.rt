@@ -6,8 +6,7 @@ ghost use Rattle.cla_group.specs.Groups.{IsGroup};
 ghost use Rattle.cla_group.specs.Dictionaries.{AreTuples};
 ghost use Rattle.cla_coded.specs.Outlines.{outline};
 
-use crate::part::Part;
-use crate::table::Table;
+use cla_coded::{Part, Table};
 use cla_group::{Dictionary, Group};
 use cla_num::{Memory, Number, Wide};
 use std::alloc::Global;
@@ -112,6 +111,18 @@ fn borrowed_part<'a, N: Number, G: Group<N>>(
     Ok(Part { columns, group })
 }
 
+// The rows and columns of the base.
+fn base_shape<N: Number, G: Group<N>>(m: &Table<N, G>) -> (u32, u32)
+    ensures rows { result.0 ≡ m.now.rows }
+    ensures cols { result.1 ≡ m.now.cols }
+{
+    if m.flipped() {
+        (m.cols(), m.rows())
+    } else {
+        (m.rows(), m.cols())
+    }
+}
+
 /// The table over the borrowed groups of another: it has the same shape, columns and codes.
 pub(crate) fn borrowed_table<'a, N: Number, G: Group<N>>(
     alloc: Global,
@@ -126,5 +137,6 @@ pub(crate) fn borrowed_table<'a, N: Number, G: Group<N>>(
     for part in m.parts() {
         parts.push(borrowed_part(alloc, part)?)?;
     }
-    Ok(m.with_parts(parts))
+    let (rows, cols) = base_shape(m);
+    Ok(Table::new(rows, cols, m.flipped(), parts))
 }

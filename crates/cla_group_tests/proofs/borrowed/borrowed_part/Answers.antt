@@ -1,5 +1,5 @@
 use Rattle.cla_group.proofs.GroupsMade.{group_valued}
-use Rattle.cla_coded.proofs.borrowed.borrowed_part.Goals as goal
+use Rattle.cla_group_tests.proofs.borrowed.borrowed_part.Goals as goal
 
 pub invariant_of-group : goal.invariant_of-group
 invariant_of-group g c =

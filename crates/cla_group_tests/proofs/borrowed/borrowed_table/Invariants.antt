@@ -1,6 +1,6 @@
 use Rattle.std.proofs.Common.{◌≡◌, map, take}
 use Rattle.cla_coded.specs.Outlines.{outline}
-use Rattle.cla_coded.proofs.borrowed.borrowed_table.Given as goal
+use Rattle.cla_group_tests.proofs.borrowed.borrowed_table.Given as goal
 
 -- the parts so far
 abbrev pub invariant-loop-part : goal.invariant-loop-part
