@@ -61,7 +61,7 @@ fn expect_codes(alloc: Global, width: u32, codes: &[u32], values: usize) -> Resu
     ensures { IfOk result (λ _. AreCodes width (values / width) codes.now values) }
 {
     let width = width as usize;
-    if width == 0 || width > MOST_CELLS || codes.is_empty() || codes.len() > MOST_CELLS {
+    if width == 0 || width > MOST_CELLS || codes.len() == 0 || codes.len() > MOST_CELLS {
         return Err(Fail::new("no rows or columns, or too many"));
     }
     if codes.len() * width > MOST_CELLS || values > MOST_CELLS || values % width != 0 {

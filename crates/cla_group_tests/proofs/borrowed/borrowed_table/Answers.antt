@@ -19,7 +19,7 @@ new-requires g c =
     (outline (λ p. p.dictionary.width) (λ p. g.G.Group.codes p.of.now)) c.parts-part-items.result.now c.loop-part.part-index
     c.loop-part.parts.items
     c.loop-part-test.false c.loop-part.invariant ∙ ap (map (outline g.G.Group.columns g.G.Group.codes)) c.parts-part-items.ensures.parts in
-    rw (c.base_shape.ensures.rows, c.base_shape.ensures.cols)
+    rw (c.base_shape-rows.ensures.rows, c.base_shape-rows.ensures.cols)
     (whole_with g.N.Number.BITS m.rows m.cols g.G.Group.columns g.G.Group.codes g.G.Group.dictionary (λ p. p.dictionary.width)
     (λ p. g.G.Group.codes p.of.now) (λ p. p.dictionary.tuples) g.met.G.Group.laws (λ p. p.is) m.parts c.loop-part.parts.items same
     c.parts-part-items.ensures.whole)
