@@ -9,8 +9,8 @@ ghost use Rattle.cla_codes.specs.Widths.{FitsWidth};
 ghost use Rattle.cla_coded.specs.Layouts.{IsPart, IsPartition, all_columns, part_at};
 ghost use Rattle.cla_coded.specs.Parts.{part_of, parts_of};
 
-use cla_codes::Codes;
 use cla_coded::{AnyGroup, Part, Table};
+use cla_codes::Codes;
 use cla_group::{Group, Kind, Occurrences, counted};
 use cla_num::{Int, Number, Wide};
 use std::alloc::Global;

@@ -152,7 +152,10 @@ pub(crate) fn group_calls<G: Group<Entry>>(
     g: &G,
     expected: &Expected,
 ) -> Result<(), Fail> {
-    assert_eq!(rt; (g.rows() as usize, g.width()), (expected.codes.len(), expected.width));
+    assert_eq!(rt;
+        (g.rows() as usize, g.width()),
+        (expected.codes.len(), expected.width)
+    );
     assert_eq!(rt; g.tuples(), expected.tuples);
     assert_eq!(rt; values_of(alloc, g)?, numbers(alloc, &expected.values)?);
     assert_eq!(rt; codes_at(alloc, g)?, expected.codes);
@@ -160,9 +163,16 @@ pub(crate) fn group_calls<G: Group<Entry>>(
     assert_eq!(rt; counts_of(alloc, g)?, expected_counts(alloc, expected)?);
     for join in [Joined::Sum, Joined::Least, Joined::Greatest] {
         let joined = expected_joined(alloc, expected, join)?;
-        assert_eq!(rt; joined_by(alloc, g, join)?, wides(alloc, &joined)?, "{join:?}");
+        assert_eq!(rt;
+            joined_by(alloc, g, join)?,
+            wides(alloc, &joined)?,
+            "{join:?}"
+        );
     }
-    assert_eq!(rt; gathered_by(alloc, g)?, wides(alloc, &expected_sums(alloc, expected)?)?);
+    assert_eq!(rt;
+        gathered_by(alloc, g)?,
+        wides(alloc, &expected_sums(alloc, expected)?)?
+    );
     Ok(())
 }
 

@@ -6,8 +6,8 @@ ghost use Rattle.cla_codes.specs.Widths.{FitsWidth};
 use crate::checked::{Entry, codes_in_bytes};
 use crate::expected::Expected;
 use crate::group_calls::{group_calls, owned_calls};
-use cla_codes::Codes;
 use cla_coded::AnyGroup;
+use cla_codes::Codes;
 use cla_group::{Group, Kind, Owned};
 use std::alloc::Global;
 use std::process::Abort;
@@ -127,7 +127,12 @@ fn bytes_calls<const W: usize>(
     let expected = Expected::in_turn(alloc, 1, tuples, 1, tuples, -20)?;
     let g = codes_in_bytes::<W>(alloc, most, 1, &expected.codes, &expected.values)?;
     assert_eq!(rt; g.bytes().len(), tuples as usize * W);
-    assert_eq!(rt; g.bytes().get(g.bytes().len().saturating_sub(W)..).ok_or("bytes")?, last);
+    assert_eq!(rt;
+        g.bytes()
+            .get(g.bytes().len().saturating_sub(W)..)
+            .ok_or("bytes")?,
+        last
+    );
     assert!(rt; tuples <= g.rows() && 0 < tuples);
     assert_eq!(rt; g.code_at(tuples - 1), tuples - 1);
     Ok(())

@@ -156,7 +156,13 @@ fn is_table(
 ) -> Result<(), Fail> {
     let (rows, cols) = base;
     let shape = if flipped { (cols, rows) } else { (rows, cols) };
-    holds(rt, alloc, t, shape, &expected_cells(alloc, parts, shape, flipped)?)?;
+    holds(
+        rt,
+        alloc,
+        t,
+        shape,
+        &expected_cells(alloc, parts, shape, flipped)?,
+    )?;
     assert_eq!(rt; t.flipped(), flipped);
     has_parts(rt, alloc, t, parts)?;
     let skeleton = t.skeleton(alloc)?;
@@ -211,7 +217,13 @@ fn two_parts_of_each_pair_of_kinds(rt: HostRuntime) -> Result<(), Fail> {
         for inner in KINDS {
             let parts = two_parts(alloc, outer, inner)?;
             let t = table_from(alloc, (4, 3), &parts)?;
-            holds(&rt, alloc, &t, (4, 3), &[1, 7, 2, 0, 7, 0, 0, 0, 0, 1, 0, 2])?;
+            holds(
+                &rt,
+                alloc,
+                &t,
+                (4, 3),
+                &[1, 7, 2, 0, 7, 0, 0, 0, 0, 1, 0, 2],
+            )?;
             table_calls(&rt, alloc, t, (4, 3), &parts)?;
         }
     }
