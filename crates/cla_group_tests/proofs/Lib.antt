@@ -1,0 +1,2 @@
+mod Smalls
+mod ListedColumns
