@@ -21,7 +21,8 @@ none_past items end below j past = elim (cases_lt 0 (occurrences_of items j)) [
 -- the columns of one part more
 pub columns_more : (parts : List LayoutPart) (part : LayoutPart) → all_columns (parts ++ part ∷ []) ≡ all_columns parts ++ part.columns
 columns_more [] part = append-nil part.columns
-columns_more (p ∷ parts) part = ap (λ (xs : List ℕ). p.columns ++ xs) (columns_more parts part) ∙ sym (append_assoc p.columns (all_columns parts) part.columns)
+columns_more (p ∷ parts) part = ap (λ (xs : List ℕ). p.columns ++ xs) (columns_more parts part)
+    ∙ sym (append_assoc p.columns (all_columns parts) part.columns)
 
 -- the columns of the parts up to one, and of that one
 pub columns_taken : {G : Type 0} (c : G → List ℕ) (d : G → List (List ℤ)) (parts : List (Part G)) (i : ℕ) (part : Part G) → i < length parts

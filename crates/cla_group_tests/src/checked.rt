@@ -35,7 +35,8 @@ pub(crate) fn numbers(alloc: Global, of: &[i64]) -> Result<Vec<Entry>, Fail>
 /// The exact integers.
 pub(crate) fn wides(alloc: Global, of: &[i64]) -> Result<Vec<Wide>, Fail>
     ensures count { IfOk result (λ made. length made.items ≡ length of.now) }
-    ensures small { IfOk result (λ made. (i : ℕ) → i < length made.items → unsigned_abs (at made.items i) ≤ value_bound) }
+    ensures small { IfOk result
+        (λ made. (i : ℕ) → i < length made.items → unsigned_abs (at made.items i) ≤ value_bound) }
 {
     let mut made = Vec::with_capacity(alloc, of.len())?;
     for v in of {
@@ -46,7 +47,8 @@ pub(crate) fn wides(alloc: Global, of: &[i64]) -> Result<Vec<Wide>, Fail>
 
 // Whether each item is at least `least` and below `end`.
 fn are_within(items: &[u32], least: u32, end: u32) -> bool
-    ensures { result ≡ true → (i : ℕ) → i < length items.now → (least ≤ code_of items.now i) × (code_of items.now i < end) }
+    ensures { result ≡ true → (i : ℕ) → i < length items.now
+        → (least ≤ code_of items.now i) × (code_of items.now i < end) }
 {
     for item in items {
         if *item < least || *item >= end {
@@ -111,7 +113,8 @@ pub(crate) fn codes_in_bytes<const W: usize>(
 
 // Whether each column is greater than the one before.
 fn are_rising(columns: &[u32]) -> bool
-    ensures { result ≡ true → (c d : ℕ) → c < d → d < length columns.now → code_of columns.now c < code_of columns.now d }
+    ensures { result ≡ true → (c d : ℕ) → c < d → d < length columns.now
+        → code_of columns.now c < code_of columns.now d }
 {
     for c in 1..columns.len() {
         if columns[c - 1] >= columns[c] {

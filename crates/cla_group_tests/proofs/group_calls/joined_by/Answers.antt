@@ -12,5 +12,9 @@ scatter-requires-clause-fits g c =
     let tuples : length c.deref-in-Sum.result.now ≡ length (g.G.Group.dictionary c.args.g.now) = search rules in
     let rows : length c.deref_mut.result.now ≡ length (g.G.Group.codes c.args.g.now) = search rules in
     λ i row.
-    (let code : code_of (g.G.Group.codes c.args.g.now) i < length c.deref-in-Sum.result.now = omega (arith, laws.in_tuples i (omega (arith, row, rows)), tuples) in
+    (let code : code_of (g.G.Group.codes c.args.g.now) i < length c.deref-in-Sum.result.now = omega (
+      arith,
+      laws.in_tuples i (omega (arith, row, rows)),
+      tuples,
+    ) in
     fits_by_size _ (omega (arith, plus_size (at c.deref_mut.result.now i) (at c.deref-in-Sum.result.now (code_of (g.G.Group.codes c.args.g.now) i)), sums i row, parts (code_of (g.G.Group.codes c.args.g.now) i) code)))
