@@ -38,14 +38,14 @@ bad_cell bits v bad = elim (cases_lt (unsigned_abs v) (2 ^ bits)) [
 ]
 
 -- cells of which none is faulty have no first fault
-no_fault_from : (bits cols place : ℕ) (cells : List (Option ℤ)) → ((i : ℕ) → i < length cells → cell_fault bits (get_or cells i None) ≡ None) → first_fault_from bits cols place cells ≡ None
+pub no_fault_from : (bits cols place : ℕ) (cells : List (Option ℤ)) → ((i : ℕ) → i < length cells → cell_fault bits (get_or cells i None) ≡ None) → first_fault_from bits cols place cells ≡ None
 no_fault_from bits cols place [] good = refl
 no_fault_from bits cols place (cell ∷ cells) good =
     ap (λ (w : Option What). or_else (first_fault_from bits cols (place + 1) cells) w cols place) (good zero (omega arith))
     ∙ no_fault_from bits cols (place + 1) cells (λ i lt. good (suc i) (omega (arith, lt)))
 
 -- the first of the faulty cells gives the fault
-fault_from : (bits cols place : ℕ) (cells : List (Option ℤ)) (i : ℕ) (what : What) → i < length cells → ((k : ℕ) → k < i → cell_fault bits (get_or cells k None) ≡ None) → cell_fault bits (get_or cells i None) ≡ Some what → first_fault_from bits cols place cells ≡ Some (fault_at cols (place + i) what)
+pub fault_from : (bits cols place : ℕ) (cells : List (Option ℤ)) (i : ℕ) (what : What) → i < length cells → ((k : ℕ) → k < i → cell_fault bits (get_or cells k None) ≡ None) → cell_fault bits (get_or cells i None) ≡ Some what → first_fault_from bits cols place cells ≡ Some (fault_at cols (place + i) what)
 fault_from bits cols place [] i what there good bad = absurd (omega (arith, there))
 fault_from bits cols place (cell ∷ cells) zero what there good bad =
     let same : place + zero ≡ place = omega arith in

@@ -3,7 +3,7 @@
 ghost use Rattle.std.specs.Prelude.{◌≡◌};
 ghost use Rattle.cla_spec.specs.Numbers.{InRange};
 
-use crate::cell_op::CellOp;
+use crate::cell_op::{CellOp, exact};
 use crate::fault::ZeroDivisor;
 use crate::meter::Meter;
 use crate::number::{GREATEST_BITS, Number};
@@ -55,10 +55,7 @@ impl<const B: u32> Number for Int<B> {
 
     fn apply(op: CellOp, a: Self, b: Self, meter: &mut Meter) -> Result<Wide, ZeroDivisor> {
         meter.count_map();
-        match op {
-            CellOp::Mul => Ok(Wide::from_i128(a.value as i128 * b.value as i128)),
-            _ => unreachable!("today only products are asked for"),
-        }
+        Ok(Wide::from_i128(exact(op, a.value, b.value)?))
     }
 
     fn put(self, into: &mut [u8; 40]) -> usize {

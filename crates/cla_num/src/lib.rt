@@ -12,7 +12,7 @@ mod number;
 mod tests;
 mod wide;
 
-pub use cell_op::CellOp;
+pub use cell_op::{CellOp, division_by_floor};
 pub use dense::Dense;
 pub use fault::{Memory, OpFault, Refused, What, ZeroDivisor};
 pub use int::Int;

@@ -1,11 +1,12 @@
 //! Numbers of a bounded range.
 
-ghost use Rattle.std.specs.Prelude.{◌≡◌, ℕ, ℤ, ◌≤◌, ◌+◌, ◌*ℤ◌, take, length, IfSome, IsSome, MatchResult, ◌↔◌};
+ghost use Rattle.std.specs.Prelude.{◌≡◌, ℕ, ℤ, ◌≤◌, ◌+◌, ◌*ℤ◌, take, length, IfSome, IsSome, Some, None, MatchResult, ◌↔◌};
 ghost use Rattle.std.specs.Int.{w128};
 ghost use Rattle.std.specs.Int.RustNames.{FitsSigned};
 ghost use Rattle.std.specs.Ordering.{int_cmp, int_eq};
 ghost use Rattle.cla_spec.specs.Numbers.{InRange, decimal_of};
 ghost use Rattle.cla_num.specs.Bits.{IsSupported};
+ghost use Rattle.cla_num.specs.Cells.{cell_value};
 ghost use Rattle.cla_num.specs.Counts.{AreBelow, operation_bound};
 
 use crate::cell_op::CellOp;
@@ -51,12 +52,11 @@ pub trait Number: Copy + Ord + Eq + Hash {
         ensures product { result ≡ value self *ℤ w }
         ensures counts { meter.new ≡ record meter.old { mults = meter.old.mults + 1 } };
 
-    /// The exact value of `a op b`. It counts as one map evaluation. Today the operator is `Mul`,
-    /// which no operands refuse.
+    /// The exact value of `a op b`. Refused exactly where the operator is `Div` or `Mod` and b is 0.
+    /// It counts as one map evaluation either way.
     fn apply(op: CellOp, a: Self, b: Self, meter: &mut Meter) -> Result<Wide, ZeroDivisor>
-        requires built { op ≡ CellOp.Mul }
         requires room { AreBelow operation_bound meter.old }
-        ensures value { MatchResult result (λ w. w ≡ value a *ℤ value b) (λ e. ⊥) }
+        ensures value { MatchResult result (λ w. cell_value op (value a) (value b) ≡ Some w) (λ e. cell_value op (value a) (value b) ≡ None) }
         ensures counts { meter.new ≡ record meter.old { maps = meter.old.maps + 1 } };
 
     /// Puts the decimal text into the first bytes of `into`, and gives its length.

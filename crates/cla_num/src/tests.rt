@@ -1,6 +1,6 @@
 //! Tests of what no clause says: that calls can succeed, and values from outside.
 
-use crate::{Dense, Int, Meter, Number};
+use crate::{CellOp, Dense, Int, Meter, Number, ZeroDivisor};
 use std::alloc::Global;
 use std::test::Fail;
 
@@ -49,5 +49,52 @@ fn entries_of_a_matrix(rt: HostRuntime) -> Result<(), Fail> {
     let meter = Meter::new();
     assert_eq!(rt; meter.mults(), 0);
     assert_eq!(rt; meter.maps(), 0);
+    Ok(())
+}
+
+// The exact value of an operator on two numbers, as decimal text, with what was counted.
+fn applied(alloc: Global, op: CellOp, a: i64, b: i64) -> Result<String, Fail> {
+    let mut meter = Meter::new();
+    let a = Int::<47>::of(a).ok_or("in range")?;
+    let b = Int::<47>::of(b).ok_or("in range")?;
+    let mut digits = [0u8; 40];
+    let text = match Number::apply(op, a, b, &mut meter) {
+        Ok(exact) => {
+            let len = exact.put(&mut digits);
+            Vec::from_slice(alloc, &digits[..len])?
+        }
+        Err(ZeroDivisor) => Vec::from_slice(alloc, b"zero")?,
+    };
+    Ok(format!(in alloc; "{} {}", String::from_utf8(text)?, meter.maps())?)
+}
+
+#[test]
+fn operators_on_cells(rt: HostRuntime) -> Result<(), Fail> {
+    for (op, a, b, is) in [
+        (CellOp::Div, 7, 2, "3 1"),
+        (CellOp::Div, -7, 2, "-4 1"),
+        (CellOp::Div, 7, -2, "-4 1"),
+        (CellOp::Div, -7, -2, "3 1"),
+        (CellOp::Div, -8, 2, "-4 1"),
+        (CellOp::Mod, 7, 2, "1 1"),
+        (CellOp::Mod, -7, 2, "1 1"),
+        (CellOp::Mod, 7, -2, "-1 1"),
+        (CellOp::Mod, -7, -2, "-1 1"),
+        (CellOp::Mod, -8, -2, "0 1"),
+        (CellOp::Div, 6, 0, "zero 1"),
+        (CellOp::Mod, 0, 0, "zero 1"),
+        (CellOp::Neg, 5, 0, "-5 1"),
+        (CellOp::Le, -3, -3, "1 1"),
+        (CellOp::Gt, -3, -3, "0 1"),
+        (
+            CellOp::Mul,
+            140737488355327,
+            -140737488355327,
+            "-19807040628565802923409276929 1",
+        ),
+    ] {
+        let found = applied(rt.alloc(), op, a, b)?;
+        assert_eq!(rt; found.as_str(), is, "{op:?} {a} {b}");
+    }
     Ok(())
 }

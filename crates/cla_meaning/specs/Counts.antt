@@ -1,0 +1,24 @@
+-- What operators count.
+use Rattle.std.specs.Prelude.{◌≡◌, ℕ, ◌+◌, ◌≤◌, Option, None}
+use Rattle.cla_num.specs.Counts.{Counts}
+
+-- so many map evaluations were made, and no multiplications
+abbrev pub HasMaps : ℕ → Counts → Counts → Type 0
+HasMaps n before now = now ≡ record before { maps = before.maps + n }
+
+-- so many multiplications, and no map evaluations
+abbrev pub HasMults : ℕ → Counts → Counts → Type 0
+HasMults n before now = now ≡ record before { mults = before.mults + n }
+
+-- n map evaluations were made, or at most as many where something stopped
+pub record AreRaised {X : Type 0} (n : ℕ) (stop : Option X) (before now : Counts) : Type 0 where
+  pub mults : now.mults ≡ before.mults
+  pub least : before.maps ≤ now.maps
+  pub most : now.maps ≤ before.maps + n
+  pub all : stop ≡ None → now.maps ≡ before.maps + n
+
+-- at most so many map evaluations were made, and no multiplications
+pub record HasMapsUpTo (n : ℕ) (before now : Counts) : Type 0 where
+  pub mults : now.mults ≡ before.mults
+  pub least : before.maps ≤ now.maps
+  pub most : now.maps ≤ before.maps + n

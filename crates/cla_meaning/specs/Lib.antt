@@ -1,0 +1,5 @@
+pub mod Entries
+pub mod Chains
+pub mod Counts
+pub mod Orders
+pub mod Laws
