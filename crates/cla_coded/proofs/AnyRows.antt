@@ -2,12 +2,12 @@
 use Rattle.std.proofs.Common.{◌≡◌, ℕ, ℤ, ◌<◌, ◌≤◌, ◌^◌, List, length, sym, ◌∙◌, refl, None, arith}
 use Rattle.std.proofs.lemmas.Bool.Decides.{nat_tests}
 use Rattle.std.specs.List.{range_with_len}
-use Rattle.cla_group.specs.declared.kind.Kind.TheVariants as kind
-use Rattle.cla_group.specs.Groups.{code_of, cell_of}
-use Rattle.cla_group.specs.Tuples.{tuples_of}
-use Rattle.cla_group.specs.Renaming.{AreInOrder}
-use Rattle.cla_group.proofs.Tuples.{tuple_value}
-use Rattle.cla_group.proofs.Counting.{code_is}
+use Rattle.cla_layout.specs.declared.kind.Kind.TheVariants as kind
+use Rattle.cla_layout.specs.Groups.{code_of, cell_of}
+use Rattle.cla_layout.specs.Tuples.{tuples_of}
+use Rattle.cla_group.specs.Dictionaries.{AreInOrder}
+use Rattle.cla_layout.proofs.Tuples.{tuple_value}
+use Rattle.cla_layout.proofs.Counting.{code_is}
 use Rattle.cla_coded.specs.AnyGroups.{least_code_bytes, IsGroupFrom}
 
 -- rows that are written out by their codes keep their values
@@ -25,9 +25,6 @@ plain_from width n codes old new codes' tuples' in_tuples same codes_are tuples_
 )
 
 -- how many bytes can name so many tuples
-pub one_byte : (n : ℕ) → n ≤ 2 ^ 8 → least_code_bytes n ≡ 1
-one_byte n few = grind (arith, nat_tests)
-
 pub two_bytes : (n : ℕ) → 2 ^ 8 < n → n ≤ 2 ^ 16 → least_code_bytes n ≡ 2
 two_bytes n many few = grind (arith, nat_tests)
 

@@ -6,14 +6,14 @@ use Rattle.std.proofs.lemmas.Bool.{cases_Bool, cases_eq, cases_lt, eq-eqb, ne_eq
 use Rattle.std.proofs.lemmas.Nat.{div-mul-add, mod-mul-add}
 use Rattle.std.proofs.lemmas.List.{get_or-set_same, get_or-set_other}
 use Rattle.cla_spec.proofs.Entries.{cell_within}
-use Rattle.cla_group.specs.Groups.{at, code_of, first_row_of}
-use Rattle.cla_group.proofs.Regroup.{code_of_first_row}
+use Rattle.cla_layout.specs.Groups.{at, code_of, first_row_of}
+use Rattle.cla_layout.proofs.Regroup.{code_of_first_row}
 use Rattle.cla_coded.specs.declared.dense.Shape.{Shape}
-use Rattle.cla_coded.specs.Layouts.{LayoutPart, IsPart, column_at, index_of, has_column}
+use Rattle.cla_layout.specs.Layouts.{LayoutPart, IsPart, column_at, index_of, has_column}
 use Rattle.cla_coded.specs.Places.{place_in, IsRowWritten, AreRowsWritten}
-use Rattle.cla_coded.proofs.Columns.{Rise, place_of_column}
-use Rattle.cla_coded.proofs.OwnRows.{own_row}
-use Rattle.cla_coded.proofs.Matrices.{column_there}
+use Rattle.cla_layout.proofs.Columns.{Rise, place_of_column}
+use Rattle.cla_rows.proofs.OwnRows.{own_row}
+use Rattle.cla_layout.proofs.Matrices.{column_there}
 
 stride_distinct : (a i i' j j' : ℕ) → j < a → j' < a → i * a + j ≡ i' * a + j' → (i ≡ i') × (j ≡ j')
 stride_distinct a i i' j j' below also same = (

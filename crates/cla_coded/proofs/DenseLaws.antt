@@ -3,12 +3,12 @@ use Rattle.std.proofs.Common.{◌≡◌, true, ℕ, ℤ, ◌+◌, ◌*◌, ◌<�
 use Rattle.std.proofs.Math.Nat.{mul_comm}
 use Rattle.std.proofs.lemmas.Bool.{cases_Bool, cases_eq}
 use Rattle.cla_spec.specs.Matrix.{Matrix, entry, row_by_row, IsShaped}
-use Rattle.cla_group.specs.Groups.{at}
-use Rattle.cla_coded.specs.Layouts.{LayoutPart, part_at, column_at, has_column, layout_with, entry_in, IsWhole, matrix_as, matrix_in}
+use Rattle.cla_layout.specs.Groups.{at}
+use Rattle.cla_layout.specs.Layouts.{LayoutPart, part_at, column_at, has_column, layout_with, entry_in, IsWhole, matrix_as, matrix_in}
 use Rattle.cla_coded.specs.declared.dense.Shape.{Shape}
 use Rattle.cla_coded.specs.Places.{place_in, IsPartOf, IsPartWritten, AreEntries}
-use Rattle.cla_coded.proofs.Wholes.{only_part, some_part, entry_of_part, own_column, own_column_within}
-use Rattle.cla_coded.proofs.Matrices.{entry_matrix_in, same_matrix}
+use Rattle.cla_layout.proofs.Wholes.{only_part, some_part, entry_of_part, own_column, own_column_within}
+use Rattle.cla_layout.proofs.Matrices.{entry_matrix_in, same_matrix}
 
 -- a part of a whole base
 pub part_in : (bits : ℕ) (shape : Shape) (parts : List LayoutPart) (q : ℕ) → IsWhole bits (layout_with shape.rows shape.cols parts)
@@ -59,6 +59,15 @@ dense_shape bits shape parts cells r c whole count rows cols = elim (cases_Bool 
       (record { a_row = whole.a_row; a_col = whole.a_col; count = count; few = whole.few })
 ]
 
+-- cells that are the values of f, row by row
+cells_are : (rows cols r c : ℕ) (cells : List ℤ) (f : ℕ → ℕ → ℤ) → r ≡ rows → c ≡ cols → IsShaped r c cells
+    → ((i j : ℕ) → i < rows → j < cols → at cells (i * cols + j) ≡ f i j)
+    → ◌≡◌ {A = Matrix} (record { rows = r; cols = c; cells = cells })
+    (record { rows = rows; cols = cols; cells = row_by_row rows cols f })
+cells_are rows cols r c cells f r_is c_is shaped same =
+    let all = same_matrix (record { rows = rows; cols = cols; cells = cells }) f (rw (r_is, c_is) at shaped) same in
+    rw (r_is, c_is) (ap (λ (cs : List ℤ). record { rows = rows; cols = cols; cells = cs }) all)
+
 -- and their matrix is that of the table
 pub dense_is : (bits : ℕ) (shape : Shape) (parts : List LayoutPart) (cells : List ℤ) (r c : ℕ)
     → IsWhole bits (layout_with shape.rows shape.cols parts) → length cells ≡ shape.rows * shape.cols
@@ -69,18 +78,11 @@ dense_is bits shape parts cells r c whole count written rows cols =
     let shaped : IsShaped r c cells = dense_shape bits shape parts cells r c whole count rows cols in
     elim (cases_Bool shape.flipped) [
       | inl flipped ↦
-          let r_is : r ≡ shape.cols = rw flipped at rows in
-          let c_is : c ≡ shape.rows = rw flipped at cols in
-          let m : Matrix = record { rows = shape.cols; cols = shape.rows; cells = cells } in
-          let same : cells ≡ row_by_row shape.cols shape.rows (λ j i. entry (matrix_in base) i j) =
-          same_matrix m (λ j i. entry (matrix_in base) i j) (rw (r_is, c_is) at shaped)
-          (λ j i col row. (rw flipped at (written i j row col)) ∙ sym (entry_matrix_in base i j row col)) in
-          rw (r_is, c_is, flipped) (ap (λ (cs : List ℤ). record { rows = shape.cols; cols = shape.rows; cells = cs }) same)
+          let turned = cells_are shape.cols shape.rows r c cells (λ j i. entry (matrix_in base) i j) (rw flipped at rows)
+          (rw flipped at cols) shaped (λ j i col row. (rw flipped at (written i j row col)) ∙ sym (entry_matrix_in base i j row col)) in
+          rw flipped turned
       | inr plain ↦
-          let r_is : r ≡ shape.rows = rw plain at rows in
-          let c_is : c ≡ shape.cols = rw plain at cols in
-          let m : Matrix = record { rows = shape.rows; cols = shape.cols; cells = cells } in
-          let same : cells ≡ row_by_row shape.rows shape.cols (entry_in parts) =
-          same_matrix m (entry_in parts) (rw (r_is, c_is) at shaped) (λ i j row col. rw plain at (written i j row col)) in
-          rw (r_is, c_is, plain) (ap (λ (cs : List ℤ). record { rows = shape.rows; cols = shape.cols; cells = cs }) same)
+          let same = cells_are shape.rows shape.cols r c cells (entry_in parts) (rw plain at rows) (rw plain at cols)
+          shaped (λ i j row col. rw plain at (written i j row col)) in
+          rw plain same
     ]

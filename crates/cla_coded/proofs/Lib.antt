@@ -1,15 +1,5 @@
-pub mod Columns
-pub mod Wholes
-pub mod PartSums
-pub mod Leasts
-pub mod PartFirsts
-pub mod PartValues
-pub mod Matrices
-pub mod OwnRows
 pub mod Outlines
 pub mod CellPlaces
 pub mod DenseLaws
 pub mod AnyRows
 pub mod Copies
-pub mod TwoParts
-pub mod Examples

@@ -2,12 +2,12 @@
 use Rattle.std.proofs.Common.{◌≡◌, ℕ, ℤ, zero, suc, ◌+◌, ◌<◌, ◌≤◌, ◌++◌, List, [], ◌∷◌, length, map, take, get_or, refl, ap, sym, ◌∙◌}
 use Rattle.std.proofs.Common.{arith}
 use Rattle.std.proofs.lemmas.List.{length-map, get_or-map, map-append, take_more, take_all}
-use Rattle.cla_group.specs.Groups.{IsGroup}
+use Rattle.cla_layout.specs.Groups.{IsGroup}
 use Rattle.cla_coded.specs.declared.part.Part.{Part}
-use Rattle.cla_coded.specs.Layouts.{layout_with, part_at, all_columns, IsPart, IsWhole}
-use Rattle.cla_coded.specs.Parts.{parts_of}
+use Rattle.cla_layout.specs.Layouts.{no_part, layout_with, part_at, all_columns, IsPart, IsWhole}
+use Rattle.cla_coded.specs.Parts.{part_of, parts_of}
 use Rattle.cla_coded.specs.Outlines.{OutlineOf, outline}
-use Rattle.cla_coded.proofs.Wholes.{same_width}
+use Rattle.cla_layout.proofs.Wholes.{same_width}
 
 -- one more item under two maps
 pub mapped_more : {A B C : Type 0} (f : A → C) (h : B → C) (xs : List A) (i : ℕ) (x : A) (done : List B) (next : B) → i < length xs → x
@@ -80,3 +80,21 @@ whole_with bits rows cols w c d w' c' d' is is' ps qs same whole =
       partition = rw columns whole.partition;
       each = parts_with bits rows w c d w' c' d' is is' ps qs same whole.each;
     }
+
+-- the part of an item
+pub part_of_item : {G : Type 0} (codes_of : G → List ℕ) (dictionary_of : G → List (List ℤ)) (parts : List (Part G)) (q : ℕ)
+    (item : Part G) → q < length parts → item ≡ get_or parts q item
+    → part_at (parts_of codes_of dictionary_of parts) q ≡ part_of codes_of dictionary_of item
+part_of_item codes_of dictionary_of parts q item there is =
+    get_or-map (part_of codes_of dictionary_of) parts q item no_part there ∙ ap (part_of codes_of dictionary_of) (sym is)
+
+pub parts_count : {G : Type 0} (codes_of : G → List ℕ) (dictionary_of : G → List (List ℤ)) (parts : List (Part G))
+    → length (parts_of codes_of dictionary_of parts) ≡ length parts
+parts_count codes_of dictionary_of parts = length-map parts (part_of codes_of dictionary_of)
+
+-- an item of a whole layout is a part
+pub part_of_whole : {G : Type 0} (codes_of : G → List ℕ) (dictionary_of : G → List (List ℤ)) (bits rows cols : ℕ) (parts : List (Part G))
+    (q : ℕ) (item : Part G) → IsWhole bits (layout_with rows cols (parts_of codes_of dictionary_of parts)) → q < length parts
+    → item ≡ get_or parts q item → IsPart bits rows (part_of codes_of dictionary_of item)
+part_of_whole codes_of dictionary_of bits rows cols parts q item whole there is =
+    rw (part_of_item codes_of dictionary_of parts q item there is) at (whole.each q (rw (parts_count codes_of dictionary_of parts) there))

@@ -6,10 +6,10 @@ use Rattle.std.specs.declared.cmp.PartialEq as partial_eq
 use Rattle.std.specs.declared.cmp.PartialOrd as partial_ord
 use Rattle.std.specs.declared.hash.Hash as hash
 use Rattle.cla_num.specs.declared.number.Number as number
-use Rattle.cla_group.specs.declared.kind.Kind.{Kind}
-use Rattle.cla_group.specs.declared.kind.Kind.TheVariants as kind
-use Rattle.cla_group.specs.Groups.{cell_of, IsGroup}
-use Rattle.cla_group.specs.Listed.{rest_of}
+use Rattle.cla_layout.specs.declared.kind.Kind.{Kind}
+use Rattle.cla_layout.specs.declared.kind.Kind.TheVariants as kind
+use Rattle.cla_layout.specs.Groups.{cell_of, IsGroup}
+use Rattle.cla_layout.specs.Listed.{rest_of}
 use Rattle.cla_plain.specs.Members.{plain_columns, plain_codes, plain_dictionary, plain_law}
 use Rattle.cla_codes.specs.Members.{codes_columns, codes_codes, codes_dictionary, codes_law}
 use Rattle.cla_offsets.specs.Members.{offsets_columns, offsets_codes, offsets_dictionary, offsets_rest, offsets_law}

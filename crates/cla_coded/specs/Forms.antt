@@ -5,7 +5,7 @@ use Rattle.std.specs.declared.cmp.PartialEq as partial_eq
 use Rattle.std.specs.declared.cmp.PartialOrd as partial_ord
 use Rattle.std.specs.declared.hash.Hash as hash
 use Rattle.cla_num.specs.declared.number.Number as number
-use Rattle.cla_group.specs.declared.kind.Kind.{Kind}
+use Rattle.cla_layout.specs.declared.kind.Kind.{Kind}
 use Rattle.cla_coded.specs.declared.any_group.AnyGroup.{AnyGroup}
 use Rattle.cla_coded.specs.AnyGroups.{FormOf, any_form}
 use Rattle.cla_coded.specs.Tables.{TableOf}

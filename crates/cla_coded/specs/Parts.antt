@@ -1,7 +1,7 @@
 -- Parts of tables, as contracts see them.
 use Rattle.std.specs.Prelude.{ℕ, ℤ, List, map}
 use Rattle.cla_coded.specs.declared.part.Part.{Part}
-use Rattle.cla_coded.specs.Layouts.{LayoutPart}
+use Rattle.cla_layout.specs.Layouts.{LayoutPart}
 
 abbrev pub part_of : {G : Type 0} → (G → List ℕ) → (G → List (List ℤ)) → Part G → LayoutPart
 part_of codes_of dictionary_of part = record {

@@ -1,8 +1,8 @@
 -- Where the entries of a table's base stand among the table's cells.
 use Rattle.std.specs.Prelude.{◌≡◌, ℕ, ℤ, true, ◌+◌, ◌*◌, ◌^◌, ◌<◌, List, length, Bool, ◌==◌, ◌&&◌, if◌then◌else◌}
-use Rattle.cla_group.specs.Groups.{at, value_of}
+use Rattle.cla_layout.specs.Groups.{at, value_of}
 use Rattle.cla_coded.specs.declared.dense.Shape.{Shape}
-use Rattle.cla_coded.specs.Layouts.{LayoutPart, IsPart, column_at, index_of, has_column, value_in, entry_in}
+use Rattle.cla_layout.specs.Layouts.{LayoutPart, IsPart, column_at, index_of, has_column, value_in, entry_in}
 
 -- the place, row by row, of the entry in row i and column j of the base
 abbrev pub place_in : Shape → ℕ → ℕ → ℕ

@@ -2,7 +2,7 @@
 use Rattle.std.specs.Prelude.{ℕ, ℤ, List, Bool, if◌then◌else◌}
 use Rattle.cla_spec.specs.Matrix.{Matrix}
 use Rattle.cla_coded.specs.declared.part.Part.{Part}
-use Rattle.cla_coded.specs.Layouts.{Layout, layout_with, matrix_as, entry_as}
+use Rattle.cla_layout.specs.Layouts.{Layout, layout_with, matrix_as, entry_as}
 use Rattle.cla_coded.specs.Parts.{parts_of}
 
 -- a table: the rows, columns and parts of its base, and whether it is the base's transpose

@@ -1,9 +1,9 @@
 //! Groups of any kind.
 
 ghost use Rattle.std.specs.Prelude.{◌≡◌, ◌/◌, ◌*◌, ◌-◌, ◌≤◌, ◌<◌, length, map, IfOk};
-ghost use Rattle.cla_group.specs.Renaming.{AreNumbered};
+ghost use Rattle.cla_layout.specs.Groups.{AreNumbered};
 ghost use Rattle.cla_group.specs.Rows.{AreRowsFrom, ArePlaces, projected};
-ghost use Rattle.cla_group.specs.Tuples.{AreCodes, tuples_of};
+ghost use Rattle.cla_layout.specs.Tuples.{AreCodes, tuples_of};
 ghost use Rattle.cla_coded.specs.AnyGroups.{any_columns, any_codes, any_dictionary, any_form, form_cut, IsGroupFrom};
 
 use cla_codes::Codes;

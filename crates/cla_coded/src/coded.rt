@@ -4,7 +4,7 @@ ghost use Rattle.std.specs.Prelude.{◌≡◌, ◌∷◌, [], false, length, IfO
 ghost use Rattle.std.specs.List.{range_with_len};
 ghost use Rattle.cla_coded.specs.AnyGroups.{any_columns, any_codes, any_dictionary, any_form, plain_form};
 ghost use Rattle.cla_coded.specs.Forms.{forms_of};
-ghost use Rattle.cla_coded.specs.Layouts.{loose_layout};
+ghost use Rattle.cla_layout.specs.Layouts.{loose_layout};
 ghost use Rattle.cla_coded.specs.Outlines.{outline};
 ghost use Rattle.cla_coded.specs.Parts.{part_of};
 ghost use Rattle.cla_coded.specs.Tables.{layout_of};

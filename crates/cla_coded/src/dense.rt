@@ -1,7 +1,7 @@
 //! From tables to dense matrices: part by part, and row by row.
 
 ghost use Rattle.std.specs.Prelude.{◌≡◌, ◌<◌, ◌*◌, ◌^◌, length, map, IfOk};
-ghost use Rattle.cla_coded.specs.Layouts.{IsWhole, layout_with};
+ghost use Rattle.cla_layout.specs.Layouts.{IsWhole, layout_with};
 ghost use Rattle.cla_coded.specs.Parts.{part_of, parts_of};
 ghost use Rattle.cla_coded.specs.Places.{HasCells, IsPartOf, IsRowWritten, IsPartWritten, AreEntries, place_in};
 

@@ -1,7 +1,7 @@
 //! Entries of layouts.
 
 ghost use Rattle.std.specs.Prelude.{◌≡◌, ◌<◌, length, true, false, MatchOption};
-ghost use Rattle.cla_coded.specs.Layouts.{HasCell, IsPart, entry_in, has_column, value_in};
+ghost use Rattle.cla_layout.specs.Layouts.{HasCell, IsPart, entry_in, has_column, value_in};
 ghost use Rattle.cla_coded.specs.Parts.{part_of, parts_of};
 
 use crate::part::Part;

@@ -1,7 +1,7 @@
 //! Tables of groups.
 
 ghost use Rattle.std.specs.Prelude.{◌≡◌, ◌<◌, not, map, IfOk};
-ghost use Rattle.cla_coded.specs.Layouts.{IsWhole, layout_with};
+ghost use Rattle.cla_layout.specs.Layouts.{IsWhole, layout_with};
 ghost use Rattle.cla_coded.specs.Parts.{parts_of};
 ghost use Rattle.cla_coded.specs.Tables.{layout_of, rows_of_table, cols_of_table, table_entry, matrix_of};
 ghost use Rattle.cla_coded.specs.Outlines.{outline};
@@ -31,7 +31,7 @@ pub struct Table<N: Number, G: Group<N>> {
 }
 
 impl<N: Number, G: Group<N>> Model for Table<N, G> {
-    ghost use Rattle.cla_coded.specs.Layouts.{IsWhole, layout_with};
+    ghost use Rattle.cla_layout.specs.Layouts.{IsWhole, layout_with};
     ghost use Rattle.cla_coded.specs.Parts.{parts_of};
     ghost use Rattle.cla_coded.specs.Tables.{TableOf};
 

@@ -3,10 +3,10 @@ use Rattle.std.proofs.Common.{◌≡◌, ℕ, ◌+◌, ◌*◌, ◌<◌, ◌≤�
 use Rattle.std.proofs.lemmas.List.{ext_get_or}
 use Rattle.std.proofs.lemmas.List.FromFn.{length-map-range_with_len, get_or-map-range_with_len}
 use Rattle.std.proofs.Math.Nat.{mul-le-mul_right}
-use Rattle.cla_group.specs.Groups.{code_of, occurrences_of}
-use Rattle.cla_group.proofs.Regroup.{first_row_there, code_of_first_row}
+use Rattle.cla_layout.specs.Groups.{code_of, occurrences_of}
+use Rattle.cla_layout.proofs.Regroup.{first_row_there, code_of_first_row}
 use Rattle.cla_spec.specs.Matrix.{most_cells}
-use Rattle.cla_group.specs.Counted.{AreCounted}
+use Rattle.cla_rows.specs.Counted.{AreCounted}
 use Rattle.cla_codes.specs.Bytes.{number_at, codes_in, AreWritten, AreKept}
 use Rattle.cla_codes.specs.Widths.{FitsWidth}
 

@@ -2,7 +2,7 @@
 use Rattle.std.specs.Prelude.{◌≡◌, ℕ, zero, suc, ◌+◌, ◌*◌, ◌/◌, ◌%◌, ◌<◌, ◌≤◌, List, [], ◌∷◌, length, map, slice_index_or, true}
 use Rattle.std.specs.List.{range_with_len}
 use Rattle.cla_spec.specs.Matrix.{most_cells}
-use Rattle.cla_group.specs.Counted.{AreCounted}
+use Rattle.cla_rows.specs.Counted.{AreCounted}
 use Rattle.cla_codes.specs.Widths.{is_code_width}
 
 -- the number in w bytes from a place on, the least byte first

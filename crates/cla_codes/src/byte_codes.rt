@@ -2,13 +2,13 @@
 
 ghost use Rattle.std.specs.Prelude.{◌≡◌, ◌<◌, ◌≤◌, ◌+◌, ◌-◌, ℕ, List, length, take, drop, IfOk};
 ghost use Rattle.cla_spec.specs.Matrix.{most_cells};
-ghost use Rattle.cla_group.specs.Groups.{code_of, occurrences_of, first_row_of};
+ghost use Rattle.cla_layout.specs.Groups.{code_of, occurrences_of, first_row_of};
 ghost use Rattle.cla_codes.specs.Widths.{FitsWidth};
 ghost use Rattle.cla_codes.specs.Bytes.{AreWritten};
 
 use crate::bytes::{read_code, write_codes};
-use cla_group::{Occurrences, counted};
 use cla_num::Memory;
+use cla_rows::{Occurrences, counted};
 use std::alloc::Global;
 use std::marker::Model;
 

@@ -2,7 +2,7 @@
 
 ghost use Rattle.std.specs.Prelude.{◌≡◌, ◌<◌, ◌≤◌, ◌+◌, ◌*◌, ◌^◌, ◌++◌, ℕ, length, true, IfOk};
 ghost use Rattle.cla_spec.specs.Matrix.{most_cells};
-ghost use Rattle.cla_group.specs.Groups.{code_of};
+ghost use Rattle.cla_layout.specs.Groups.{code_of};
 ghost use Rattle.cla_codes.specs.Widths.{is_code_width};
 ghost use Rattle.cla_codes.specs.Bytes.{number_at, bytes_of, AreWritten};
 

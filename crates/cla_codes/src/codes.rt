@@ -1,8 +1,8 @@
 //! Groups that keep one code for each row.
 
 ghost use Rattle.std.specs.Prelude.{◌≡◌, ◌/◌, ◌*◌, length, map, IfOk};
-ghost use Rattle.cla_group.specs.Groups.{IsGroup};
-ghost use Rattle.cla_group.specs.Tuples.{AreCodes, tuples_of};
+ghost use Rattle.cla_layout.specs.Groups.{IsGroup};
+ghost use Rattle.cla_layout.specs.Tuples.{AreCodes, tuples_of};
 ghost use Rattle.cla_codes.specs.Widths.{FitsWidth};
 ghost use Rattle.cla_codes.specs.Bytes.{AreWritten};
 
@@ -42,8 +42,7 @@ impl<N: Number, const W: usize> Codes<N, W> {
         ensures dictionary { let tuples = tuples_of width (length values.items / width) (map N.value values.items) in
             IfOk result (λ g. ⟦<Codes<N, W> as Group<N>>⟧.dictionary g ≡ tuples) }
     {
-        let tuples = (values.len() / width as usize) as u32;
-        Codes::of_codes(alloc, Dictionary::new(width, tuples, values), codes)
+        Codes::of_codes(alloc, Dictionary::of_values(width, values), codes)
     }
 
     // The group of these tuples and codes.

@@ -8,8 +8,8 @@ use Rattle.cla_spec.specs.Numbers.{InRange}
 use Rattle.cla_spec.proofs.Sums.{plus_zero, sum_to-size}
 use Rattle.cla_num.specs.Bits.{IsSupported, value_bound}
 use Rattle.cla_num.proofs.Sizes.{value_size}
-use Rattle.cla_group.specs.Groups.{at, code_of, gathered_to}
-use Rattle.cla_group.proofs.Tuples.{item_holds}
+use Rattle.cla_layout.specs.Groups.{at, code_of, gathered_to}
+use Rattle.cla_layout.proofs.Tuples.{item_holds}
 
 -- a row with this code adds its item
 pub gathered_here : (codes : List ℕ) (items : List ℤ) (k i : ℕ) → code_of codes i ≡ k

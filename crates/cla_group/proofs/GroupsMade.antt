@@ -3,13 +3,13 @@ use Rattle.std.proofs.Common.{refl, ◌≡◌, ℕ, ℤ, pos, ◌+◌, ◌-◌, 
 use Rattle.std.proofs.Math.Nat.{mul-le-mul_left, mul-le-mul_right}
 use Rattle.std.proofs.lemmas.List.{length-map, get_or-map}
 use Rattle.cla_spec.specs.Matrix.{most_cells}
-use Rattle.cla_group.specs.Groups.{at, code_of, value_of, IsGroup}
+use Rattle.cla_layout.specs.Groups.{at, code_of, value_of, IsGroup}
 use Rattle.cla_group.specs.Rows.{AreRowsFrom, ArePlaces, projected}
-use Rattle.cla_group.specs.Renaming.{AreRenamed}
-use Rattle.cla_group.proofs.Coded.{rows_between, row_between}
-use Rattle.cla_group.proofs.Counts.{used_few}
+use Rattle.cla_rows.specs.Renaming.{AreRenamed}
+use Rattle.cla_layout.proofs.Coded.{rows_between, row_between}
+use Rattle.cla_layout.proofs.Counts.{used_few}
 use Rattle.cla_group.proofs.Projections.{places_few}
-use Rattle.cla_group.specs.Tuples.{AreCodes}
+use Rattle.cla_layout.specs.Tuples.{AreCodes}
 use Rattle.cla_group.specs.Dictionaries.{DictionaryOf, AreTuples, AreValues, in_order}
 use Rattle.cla_group.specs.KeptRows.{AreKeptRows}
 
@@ -25,12 +25,6 @@ group_valued bits width codes tuples tuples' is are count = record {
   full = are.full;
   small = are.small;
 }
-
-pub tuples_few : (bits width : ℕ) (codes : List ℕ) (tuples : List (List ℤ)) → IsGroup bits width codes tuples → length tuples ≤ length codes
-tuples_few bits width codes tuples is = used_few codes (length tuples) is.used
-
-pub codes_few : (bits width : ℕ) (codes : List ℕ) (tuples : List (List ℤ)) → IsGroup bits width codes tuples → length codes ≤ most_cells
-codes_few bits width codes tuples is = omega (arith, is.few_cells, mul-le-mul_left {m = 1} {n = width} (length codes) is.a_column)
 
 -- some of the columns
 pub group_projected : (bits width : ℕ) (codes : List ℕ) (tuples : List (List ℤ)) (places : List ℕ) → IsGroup bits width codes tuples

@@ -1,16 +1,6 @@
-pub mod Tuples
-pub mod Bounds
 pub mod Gathered
-pub mod Regroup
-pub mod Cells
-pub mod Counting
 pub mod Projections
-pub mod Renamings
-pub mod Counts
-pub mod Coded
-pub mod Listings
+pub mod Reorderings
 pub mod Rests
 pub mod Dictionaries
 pub mod GroupsMade
-pub mod Ranks
-pub mod GroupedRows

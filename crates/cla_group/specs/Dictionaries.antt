@@ -1,8 +1,8 @@
 -- Dictionaries: the tuples of a group.
-use Rattle.std.specs.Prelude.{◌≡◌, ℕ, ℤ, ◌*◌, ◌<◌, ◌≤◌, List, [], length, map, slice_index_or}
+use Rattle.std.specs.Prelude.{◌≡◌, ℕ, ℤ, ◌+◌, ◌*◌, ◌<◌, ◌≤◌, List, [], length, map, slice_index_or}
 use Rattle.cla_spec.specs.Numbers.{InRange}
 use Rattle.cla_spec.specs.Matrix.{most_cells}
-use Rattle.cla_group.specs.Groups.{value_of}
+use Rattle.cla_layout.specs.Groups.{at, code_of, value_of}
 
 -- a dictionary: how many values each tuple has, and the tuples
 pub record DictionaryOf : Type 0 where
@@ -27,3 +27,7 @@ pub record AreValues (width n values : ℕ) : Type 0 where
 -- the tuples that `order` names
 abbrev pub in_order : List ℕ → List (List ℤ) → List (List ℤ)
 in_order order tuples = map (λ k. slice_index_or tuples k []) order
+
+-- values tuple after tuple: tuple k has those of the old tuple order k
+abbrev pub AreInOrder : ℕ → List ℕ → List ℤ → List ℤ → Type 0
+AreInOrder width order old new = (k c : ℕ) → k < length order → c < width → at new (k * width + c) ≡ at old (code_of order k * width + c)

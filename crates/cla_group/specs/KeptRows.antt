@@ -1,8 +1,8 @@
 -- Some of a group's rows, with the tuples that they name.
 use Rattle.std.specs.Prelude.{◌≡◌, ℕ, ◌-◌, ◌<◌, ◌≤◌, List, length, take, drop}
-use Rattle.cla_group.specs.Groups.{IsGroup}
+use Rattle.cla_layout.specs.Groups.{IsGroup}
 use Rattle.cla_group.specs.Rows.{AreRowsFrom}
-use Rattle.cla_group.specs.Renaming.{AreNumbered}
+use Rattle.cla_layout.specs.Groups.{AreNumbered}
 use Rattle.cla_group.specs.Dictionaries.{DictionaryOf}
 
 -- the rows with these codes of a dictionary, with new codes of a dictionary without the tuples that none of them names:

@@ -1,11 +1,3 @@
-pub mod Groups
-pub mod Tuples
 pub mod Rows
-pub mod Laws
-pub mod Renaming
-pub mod Counted
-pub mod Listed
 pub mod Dictionaries
-pub mod Grouped
-pub mod Kinds
 pub mod KeptRows

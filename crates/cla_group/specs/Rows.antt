@@ -1,7 +1,7 @@
 -- Parts of groups: some of the rows, or some of the columns.
 use Rattle.std.specs.Prelude.{◌≡◌, ℕ, ℤ, ◌+◌, ◌*◌, ◌<◌, List, length, map, ◌↔◌}
-use Rattle.cla_group.specs.Groups.{at, code_of, cell_of}
-use Rattle.cla_group.specs.Tuples.{tuples_of}
+use Rattle.cla_layout.specs.Groups.{at, code_of, cell_of}
+use Rattle.cla_layout.specs.Tuples.{tuples_of}
 
 -- the n rows from row a on: they keep their values, and two of them have equal codes exactly where they had
 pub record AreRowsFrom (a n width : ℕ) (codes : List ℕ) (tuples : List (List ℤ)) (codes' : List ℕ) (tuples' : List (List ℤ)) : Type 0 where
@@ -18,8 +18,3 @@ pub record ArePlaces (width : ℕ) (places : List ℕ) : Type 0 where
 -- what a tuple keeps in these places
 abbrev pub projected : List ℕ → List ℤ → List ℤ
 projected places tuple = map (at tuple) places
-
--- the values of n tuples, of which each keeps these places
-pub record AreProjected (width n : ℕ) (places : List ℕ) (old new : List ℤ) : Type 0 where
-  pub whole : length new ≡ n * length places
-  pub tuples : tuples_of (length places) n new ≡ map (projected places) (tuples_of width n old)

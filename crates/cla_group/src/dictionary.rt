@@ -1,15 +1,15 @@
 //! Dictionaries.
 
-ghost use Rattle.std.specs.Prelude.{◌≡◌, ◌<◌, ◌≤◌, ◌*◌, ◌-◌, ℕ, List, length, map, take, drop, IfOk};
-ghost use Rattle.cla_group.specs.Groups.{code_of, value_of};
-ghost use Rattle.cla_group.specs.Tuples.{tuples_of};
+ghost use Rattle.std.specs.Prelude.{◌≡◌, ◌<◌, ◌≤◌, ◌*◌, ◌-◌, ◌/◌, ℕ, List, [], length, map, take, drop, slice_index_or, IfOk};
+ghost use Rattle.cla_layout.specs.Groups.{code_of, value_of, IsGroup};
+ghost use Rattle.cla_layout.specs.Tuples.{tuples_of, AreCodes};
 ghost use Rattle.cla_group.specs.Rows.{ArePlaces, projected};
-ghost use Rattle.cla_group.specs.Listed.{rest_of};
+ghost use Rattle.cla_layout.specs.Listed.{rest_of, numbered_rest};
 ghost use Rattle.cla_group.specs.Dictionaries.{AreTuples, AreValues, in_order};
 
-use crate::projected::projected_values;
-use crate::renaming::values_in_order;
-use crate::rest::rest_tuple;
+use crate::projected::keep_places;
+use crate::reordered::values_in_order;
+use crate::zeros::is_zero;
 use cla_num::{Memory, Number};
 use std::alloc::Global;
 use std::marker::Model;
@@ -24,8 +24,8 @@ pub struct Dictionary<N: Number> {
 
 impl<N: Number> Model for Dictionary<N> {
     ghost use Rattle.std.specs.Prelude.{length, map};
-    ghost use Rattle.cla_group.specs.Tuples.{tuples_of};
-    ghost use Rattle.cla_group.specs.Listed.{rest_of};
+    ghost use Rattle.cla_layout.specs.Tuples.{tuples_of};
+    ghost use Rattle.cla_layout.specs.Listed.{rest_of};
     ghost use Rattle.cla_group.specs.Dictionaries.{DictionaryOf, AreValues};
 
     ghost Value = { DictionaryOf };
@@ -35,7 +35,7 @@ impl<N: Number> Model for Dictionary<N> {
     ghost invariant = { λ d. AreValues d.width d.tuples (length d.values.items) };
 }
 
-#[tactic(auto, using(crate::proofs::Tuples::tuples_count))]
+#[tactic(auto, using(cla_layout::proofs::Tuples::tuples_count))]
 impl<N: Number> Dictionary<N> {
     /// The dictionary of these values, tuple after tuple.
     pub fn new(width: u32, tuples: u32, values: Vec<N>) -> Dictionary<N>
@@ -47,6 +47,18 @@ impl<N: Number> Dictionary<N> {
             tuples,
             values,
         }
+    }
+
+    /// The dictionary of a group of rows with some codes, whose tuples have these values.
+    pub fn of_values(width: u32, values: Vec<N>) -> Dictionary<N>
+        requires { (codes : List ℕ) × AreCodes width (length values.items / width) codes (length values.items) }
+        ensures value { let tuples = tuples_of width (length values.items / width) (map N.value values.items) in
+            result ≡ record { width = width; tuples = tuples } }
+        ensures group { (codes : List ℕ) → AreCodes width (length values.items / width) codes (length values.items) →
+            IsGroup N.BITS result.width codes result.tuples }
+    {
+        let tuples = (values.len() / width as usize) as u32;
+        Dictionary::new(width, tuples, values)
     }
 
     /// How many values each tuple has.
@@ -73,11 +85,35 @@ impl<N: Number> Dictionary<N> {
         self.values[k as usize * self.width as usize + c as usize]
     }
 
-    /// The rest of these tuples, whichever rows have them: the first tuple of zeros, if there is one.
+    // The values of tuple k.
+    fn tuple(&self, k: u32) -> &[N]
+        requires { k < length self.now.tuples }
+        ensures full { length result.now ≡ self.now.width }
+        ensures values { map N.value result.now ≡ slice_index_or self.now.tuples k [] }
+    {
+        let width = self.width as usize;
+        let begin = k as usize * width;
+        &self.values[begin..begin + width]
+    }
+
+    /// The rest of these tuples, whichever rows have them: the first tuple of zeros, if there is one
+    /// (PVLDB 9(12), section 3).
     pub fn rest(&self) -> Option<u32>
         ensures { (codes : List ℕ) → result ≡ rest_of codes self.now.tuples }
     {
-        rest_tuple(self.width, &self.values)
+        for k in 0..self.len() {
+            if is_zero(self.tuple(k)) {
+                return Some(k);
+            }
+        }
+        None
+    }
+
+    /// The number of the rest; where there is none, how many tuples there are.
+    pub fn rest_number(&self) -> u32
+        ensures { (codes : List ℕ) → numbered_rest (length self.now.tuples) result ≡ rest_of codes self.now.tuples }
+    {
+        self.rest().unwrap_or(self.len())
     }
 
     /// The tuples keep the values in these places.
@@ -86,7 +122,10 @@ impl<N: Number> Dictionary<N> {
         ensures { let tuples = map (projected places.now) self.now.tuples in
             IfOk result (λ d. d ≡ record { width = length places.now; tuples = tuples }) }
     {
-        let values = projected_values(alloc, self.width, places, &self.values)?;
+        let mut values = Vec::with_capacity(alloc, self.tuples as usize * places.len())?;
+        for k in 0..self.len() {
+            keep_places(self.tuple(k), places, &mut values)?;
+        }
         Ok(Dictionary {
             width: places.len() as u32,
             tuples: self.tuples,

@@ -4,8 +4,9 @@ ghost use Rattle.std.specs.Prelude.{◌≡◌, ◌<◌, ◌+ℤ◌, ℕ, ℤ, Li
 ghost use Rattle.std.specs.Int.{w128, int_min, int_max};
 ghost use Rattle.std.specs.Int.RustNames.{FitsSigned};
 ghost use Rattle.cla_num.specs.Bits.{IsSupported};
-ghost use Rattle.cla_group.specs.Groups.{at, code_of, value_of, occurrences_of, first_row_of, gathered, Scattered, IsGroup};
+ghost use Rattle.cla_layout.specs.Groups.{at, code_of, value_of, occurrences_of, first_row_of, gathered, Scattered, IsGroup};
 
+use crate::items::gather_row;
 use cla_num::{Number, Wide};
 
 /// A group of columns, compressed (PVLDB 9(12), section 3): each row has a code, and the code names a
@@ -119,7 +120,7 @@ pub trait Group<N: Number> {
         into.fill(Wide::zero());
         for i in 0..self.rows() {
             let k = self.code_at(i) as usize;
-            into[k] = into[k].plus(rows[i as usize].wide());
+            gather_row(rows, i as usize, k, into);
         }
     }
 

@@ -3,7 +3,7 @@
 ghost use Rattle.std.specs.Prelude.{◌≡◌, ◌<◌, ◌+ℤ◌, ℕ, ℤ, length, true};
 ghost use Rattle.std.specs.Int.{w128, int_min, int_max};
 ghost use Rattle.std.specs.Int.RustNames.{FitsSigned};
-ghost use Rattle.cla_group.specs.Groups.{at};
+ghost use Rattle.cla_layout.specs.Groups.{at};
 
 use cla_num::Wide;
 

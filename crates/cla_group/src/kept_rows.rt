@@ -2,12 +2,12 @@
 
 ghost use Rattle.std.specs.Prelude.{◌<◌, ◌≤◌, ℕ, length, IfOk};
 ghost use Rattle.cla_spec.specs.Matrix.{most_cells};
-ghost use Rattle.cla_group.specs.Groups.{code_of};
+ghost use Rattle.cla_layout.specs.Groups.{code_of};
 ghost use Rattle.cla_group.specs.KeptRows.{AreKeptRows};
 
 use crate::dictionary::Dictionary;
-use crate::renaming::{Renaming, renamed};
 use cla_num::{Memory, Number};
+use cla_rows::{Renaming, renamed};
 use std::alloc::Global;
 
 /// Codes of rows, and the tuples that they name.

@@ -1,29 +1,21 @@
-//! Groups of columns: the traits that every encoding meets, their laws, and what operators need to
-//! know of them.
+//! Groups of columns: the traits that every encoding meets, and the dictionary that all of them have.
 #![tactic(auto)]
 
 mod dictionary;
 mod group;
-mod grouped;
+mod items;
 mod join;
 mod kept_rows;
-mod kind;
-mod laws;
 mod owned;
 mod projected;
-mod renaming;
-mod rest;
-mod row_counts;
+mod reordered;
+mod zeros;
 
+pub use cla_layout::Kind;
 pub use dictionary::Dictionary;
 pub use group::Group;
-pub use grouped::{Grouped, group_places};
+pub use items::{gather_row, with_item};
 pub use join::{Greatest, Join, Least, Plus};
 pub use kept_rows::{KeptRows, keep_rows};
-pub use kind::Kind;
-pub use laws::{
-    extremes_regroup, faults_regroup, first_places_regroup, sums_regroup, weighted_sums_regroup,
-};
 pub use owned::Owned;
-pub use renaming::values_in_order;
-pub use row_counts::{Occurrences, counted};
+pub use reordered::values_in_order;

@@ -1,8 +1,8 @@
 //! Groups that own what they keep.
 
 ghost use Rattle.std.specs.Prelude.{◌≡◌, ◌<◌, ◌≤◌, ◌*◌, ◌-◌, length, map, IfOk};
-ghost use Rattle.cla_group.specs.Tuples.{tuples_of};
-ghost use Rattle.cla_group.specs.Renaming.{AreNumbered};
+ghost use Rattle.cla_layout.specs.Tuples.{tuples_of};
+ghost use Rattle.cla_layout.specs.Groups.{AreNumbered};
 ghost use Rattle.cla_group.specs.Rows.{AreRowsFrom, ArePlaces, projected};
 
 use crate::group::Group;

@@ -2,8 +2,8 @@
 use Rattle.std.proofs.Common.{◌≡◌, Bool, false, ℕ, ℤ, zero, suc, ◌<◌, ◌≤◌, List, [], ◌∷◌, length, cond, eqb, refl, arith, inl, inr}
 use Rattle.std.proofs.lemmas.Bool.{cases_Bool, eqb-true}
 use Rattle.std.proofs.lemmas.List.Sums.{sum_by-cons}
-use Rattle.cla_group.specs.Groups.{IsGroup}
-use Rattle.cla_coded.specs.Layouts.{LayoutPart, IsWhole, IsPart, layout_with, part_at, count_of}
+use Rattle.cla_layout.specs.Groups.{IsGroup}
+use Rattle.cla_layout.specs.Layouts.{LayoutPart, IsWhole, IsPart, layout_with, part_at, count_of}
 
 abbrev pub one_group : List ℕ → List (List ℤ) → List LayoutPart
 one_group codes tuples = record { columns = 0 ∷ []; codes = codes; tuples = tuples } ∷ []

@@ -4,15 +4,16 @@ ghost use Rattle.std.specs.Prelude.{◌≡◌, ◌<◌, ◌≤◌, ◌+ℤ◌, �
 ghost use Rattle.std.specs.Int.{w128};
 ghost use Rattle.std.specs.Int.RustNames.{FitsSigned};
 ghost use Rattle.cla_spec.specs.Matrix.{most_cells};
-ghost use Rattle.cla_group.specs.Groups.{at, code_of, occurrences_of};
-ghost use Rattle.cla_group.specs.Tuples.{AreCodes};
+ghost use Rattle.cla_layout.specs.Groups.{at, code_of, occurrences_of};
+ghost use Rattle.cla_layout.specs.Tuples.{AreCodes};
 ghost use Rattle.cla_coded.specs.AnyGroups.{any_columns};
 
 use crate::stop::Stop;
 use crate::task::Task;
 use cla_coded::AnyGroup;
-use cla_group::{Kind, Occurrences, counted};
+use cla_group::Kind;
 use cla_num::{Int, Memory, Number, Wide};
+use cla_rows::{Occurrences, counted};
 use std::alloc::Global;
 
 /// The numbers of the groups.

@@ -2,10 +2,10 @@
 use Rattle.std.proofs.Common.{◌≡◌, ℕ, ℤ, ◌+◌, ◌<◌, ◌≤◌, List, [], ◌∷◌, ◌++◌, length, map, take, get_or, ap, sym, ◌∙◌, arith, inl, inr}
 use Rattle.std.proofs.lemmas.Bool.{cases_lt}
 use Rattle.std.proofs.lemmas.List.{append_assoc, append-nil, length-map, get_or-map, take_more}
-use Rattle.cla_group.specs.Groups.{code_of, occurrences_of}
-use Rattle.cla_group.proofs.Regroup.{first_row_there, code_of_first_row}
+use Rattle.cla_layout.specs.Groups.{code_of, occurrences_of}
+use Rattle.cla_layout.proofs.Regroup.{first_row_there, code_of_first_row}
 use Rattle.cla_coded.specs.declared.part.Part.{Part}
-use Rattle.cla_coded.specs.Layouts.{LayoutPart, all_columns}
+use Rattle.cla_layout.specs.Layouts.{LayoutPart, all_columns}
 use Rattle.cla_coded.specs.Parts.{part_of, parts_of}
 
 -- no item past the end is there, where each is below it

@@ -4,7 +4,7 @@ use Rattle.std.specs.Int.RustNames.{unsigned_abs}
 use Rattle.std.proofs.lemmas.Bool.{cases_lt}
 use Rattle.std.proofs.lemmas.List.{get_or_append_left, get_or_push, length_push}
 use Rattle.cla_num.specs.Bits.{value_bound}
-use Rattle.cla_group.specs.Groups.{at}
+use Rattle.cla_layout.specs.Groups.{at}
 
 -- the integers are no larger than numbers are
 abbrev pub AreSmall : List ℤ → Type 0

@@ -2,7 +2,7 @@
 //! same parts but for the values. So an operator may go on with a table whose codes it has not copied.
 
 ghost use Rattle.std.specs.Prelude.{◌≡◌, length, map, IfOk};
-ghost use Rattle.cla_group.specs.Groups.{IsGroup};
+ghost use Rattle.cla_layout.specs.Groups.{IsGroup};
 ghost use Rattle.cla_group.specs.Dictionaries.{AreTuples};
 ghost use Rattle.cla_coded.specs.Outlines.{outline};
 

@@ -3,16 +3,17 @@
 ghost use Rattle.std.specs.Prelude.{◌≡◌, ◌≤◌, ◌<◌, ◌/◌, ℕ, length, true, IfOk};
 ghost use Rattle.std.specs.Int.RustNames.{unsigned_abs};
 ghost use Rattle.cla_num.specs.Bits.{value_bound};
-ghost use Rattle.cla_group.specs.Groups.{at, code_of};
-ghost use Rattle.cla_group.specs.Tuples.{AreCodes};
+ghost use Rattle.cla_layout.specs.Groups.{at, code_of};
+ghost use Rattle.cla_layout.specs.Tuples.{AreCodes};
 ghost use Rattle.cla_codes.specs.Widths.{FitsWidth};
-ghost use Rattle.cla_coded.specs.Layouts.{IsPart, IsPartition, all_columns, part_at};
+ghost use Rattle.cla_layout.specs.Layouts.{IsPart, IsPartition, all_columns, part_at};
 ghost use Rattle.cla_coded.specs.Parts.{part_of, parts_of};
 
 use cla_coded::{AnyGroup, Part, Table};
 use cla_codes::Codes;
-use cla_group::{Group, Kind, Occurrences, counted};
+use cla_group::{Group, Kind};
 use cla_num::{Int, Number, Wide};
+use cla_rows::{Occurrences, counted};
 use std::alloc::Global;
 use std::test::Fail;
 

@@ -1,8 +1,8 @@
 -- Rows whose places are joined with parts.
 use Rattle.std.proofs.Common.{◌≡◌, Bool, cond, [], ℕ, ℤ, ◌+◌, ◌-◌, ◌*◌, ◌<◌, ◌≤◌, List, length, ap, sym, ◌∙◌, arith, inl, inr}
 use Rattle.std.proofs.lemmas.Bool.{cases_lt, cases_eq, eq-eqb}
-use Rattle.cla_group.specs.Groups.{at, code_of}
-use Rattle.cla_group.specs.Listed.{rows_of}
+use Rattle.cla_layout.specs.Groups.{at, code_of}
+use Rattle.cla_layout.specs.Listed.{rows_of}
 use Rattle.cla_offsets.specs.Segments.{segment_rows, segment_of, listed}
 use Rattle.cla_offsets.specs.Walks.{AreJoined, IsListJoined}
 use Rattle.cla_offsets.proofs.ListedRows.{are_listed}

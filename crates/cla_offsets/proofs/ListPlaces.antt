@@ -3,14 +3,15 @@ use Rattle.std.proofs.Common.{◌≡◌, ℕ, zero, suc, ◌+◌, ◌-◌, ◌*�
 use Rattle.std.proofs.Common.{subst, ap, sym, ◌∙◌, arith, inl, inr}
 use Rattle.std.proofs.lemmas.Bool.{cases_eq}
 use Rattle.std.proofs.lemmas.List.{length-append, take_all}
-use Rattle.cla_group.specs.Groups.{code_of}
-use Rattle.cla_group.proofs.Tuples.{place_within}
+use Rattle.cla_layout.specs.Groups.{code_of}
+use Rattle.cla_layout.proofs.Tuples.{place_within}
 use Rattle.cla_offsets.specs.declared.lists.Lists.{Lists}
 use Rattle.cla_offsets.specs.Rows.{OffsetsOf}
-use Rattle.cla_offsets.specs.Segments.{segment_rows, segment_of, lists_to, begins_to, list_of, lists_of, starts_of}
+use Rattle.cla_offsets.specs.Segments.{segment_rows, segment_of, list_of, lists_of, starts_of}
+use Rattle.cla_rows.specs.Chains.{lists_to, begins_to}
 use Rattle.cla_offsets.specs.Segments.{AreLists, AreAdded, list_begin, begin_kept, list_kept}
-use Rattle.cla_offsets.proofs.Chains.{lists_none, lists_more, lists_size, list_within_all, list_part, list_item}
-use Rattle.cla_offsets.proofs.Chains.{begins_count, begin_at, begins_more}
+use Rattle.cla_rows.proofs.Chains.{lists_none, lists_more, lists_size, list_within_all, list_part, list_item}
+use Rattle.cla_rows.proofs.Chains.{begins_count, begin_at, begins_more}
 use Rattle.cla_offsets.proofs.ListedRows.{listed_few}
 use Rattle.cla_offsets.proofs.SegmentRows.{segment_size}
 

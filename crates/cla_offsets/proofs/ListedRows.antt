@@ -4,13 +4,15 @@ use Rattle.std.proofs.Common.{refl, subst, ap, sym, ◌∙◌, arith, inl, inr}
 use Rattle.std.specs.List.{list_any}
 use Rattle.std.proofs.lemmas.Bool.{cases_eq, eq-eqb, ne_eqb, eqb-true}
 use Rattle.std.proofs.lemmas.List.{length-append}
-use Rattle.cla_group.specs.Groups.{code_of, occurrences_of}
-use Rattle.cla_group.specs.Grouped.{below}
-use Rattle.cla_group.specs.Listed.{rows_of, rows_where}
-use Rattle.cla_group.proofs.Listings.{are_rows_where, row_listed, row_place, rows_of_count}
-use Rattle.cla_group.proofs.Ranks.{below_more, below_few}
-use Rattle.cla_offsets.specs.Segments.{listed, lists_to}
-use Rattle.cla_offsets.proofs.Chains.{lists_none, lists_more}
+use Rattle.cla_layout.specs.Groups.{code_of, occurrences_of}
+use Rattle.cla_rows.specs.Grouped.{below}
+use Rattle.cla_layout.specs.Listed.{rows_of, rows_where}
+use Rattle.cla_layout.proofs.Listings.{are_rows_where, row_listed, row_place, rows_of_count}
+use Rattle.cla_layout.proofs.Counts.{below_more}
+use Rattle.cla_rows.proofs.Ranks.{below_few}
+use Rattle.cla_offsets.specs.Segments.{listed}
+use Rattle.cla_rows.specs.Chains.{lists_to}
+use Rattle.cla_rows.proofs.Chains.{lists_none, lists_more}
 
 -- a list of the rows of a code, which rise; all of them, if the code isn't the rest
 pub record AreListed (codes : List ℕ) (rest k : ℕ) (list : List ℕ) : Type 0 where

@@ -7,7 +7,7 @@ use Rattle.std.proofs.lemmas.Slice.{take-put_mid}
 use borrow.Rule.Slice.PartMut.{put_mid}
 use Rattle.std.proofs.lemmas.Bool.{cases_lt}
 use Rattle.std.proofs.lemmas.List.{length-drop, get_or-take, get_or-drop, take_all, take-take, drop-take, drop-drop}
-use Rattle.cla_group.specs.Groups.{code_of}
+use Rattle.cla_layout.specs.Groups.{code_of}
 use Rattle.cla_offsets.specs.Segments.{segment_rows, segment_of, segments_of}
 
 pub segment_size : (codes : List ℕ) (s : ℕ) → length (segment_of codes s) ≡ min segment_rows (length codes - s * segment_rows)

@@ -5,7 +5,7 @@ use Rattle.std.specs.List.{list_any}
 use Rattle.std.proofs.lemmas.Bool.{cases_eq, eq-eqb, ne_eqb}
 use Rattle.std.proofs.lemmas.List.{ext_get_or}
 use Rattle.std.proofs.lemmas.List.FromFn.{length-map-range_with_len, get_or-map-range_with_len}
-use Rattle.cla_group.specs.Groups.{code_of}
+use Rattle.cla_layout.specs.Groups.{code_of}
 use Rattle.cla_offsets.specs.declared.lists.Lists.{Lists}
 use Rattle.cla_offsets.specs.Rows.{OffsetsOf}
 use Rattle.cla_offsets.specs.Segments.{segment_rows, segment_of, segments_of, listed, list_of, AreLists, list_kept, code_by, codes_kept}
@@ -21,6 +21,13 @@ pub code_by_more : (rest : ℕ) (lists : ℕ → List ℕ) (k j : ℕ) →
     code_by rest lists (k + 1) j ≡ cond (list_any (λ o. eqb o j) (lists k)) k (code_by rest lists k j)
 unfolding code_by
 code_by_more rest lists k j = let next : k + 1 ≡ suc k = omega arith in ap (λ (n : ℕ). code_by rest lists n j) next
+
+-- one list more, which has the row or hasn't
+pub told_step : (rest : ℕ) (lists : ℕ → List ℕ) (k j n : ℕ) (list : List ℕ) (b : Bool) → n ≡ k + 1 → list ≡ lists k →
+    list_any (λ o. eqb o j) list ≡ b → cond b k (code_by rest lists k j) ≡ code_by rest lists n j
+told_step rest lists k j n list b next is has =
+    sym (ap (λ (m : ℕ). code_by rest lists m j) next ∙ code_by_more rest lists k j
+    ∙ ap (λ (b : Bool). cond b k (code_by rest lists k j)) (ap (λ (xs : List ℕ). list_any (λ o. eqb o j) xs) (sym is) ∙ has))
 
 none_either : (b : Bool) → cond b false false ≡ false
 none_either true = refl

@@ -5,8 +5,8 @@ use Rattle.std.specs.declared.cmp.PartialEq as partial_eq
 use Rattle.std.specs.declared.cmp.PartialOrd as partial_ord
 use Rattle.std.specs.declared.hash.Hash as hash
 use Rattle.cla_num.specs.declared.number.Number as number
-use Rattle.cla_group.specs.Groups.{IsGroup}
-use Rattle.cla_group.specs.Tuples.{tuples_of}
+use Rattle.cla_layout.specs.Groups.{IsGroup}
+use Rattle.cla_layout.specs.Tuples.{tuples_of}
 use Rattle.cla_group.specs.Rows.{AreRowsFrom, projected}
 use Rattle.cla_offsets.specs.declared.offsets.Offsets.{Offsets}
 use Rattle.cla_offsets.specs.Rows.{rest_in}

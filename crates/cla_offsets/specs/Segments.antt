@@ -3,10 +3,11 @@ use Rattle.std.specs.Prelude.{◌≡◌, ℕ, suc, zero, ◌+◌, ◌-◌, ◌*�
 use Rattle.std.specs.Prelude.{length, map, take, drop, ◌==◌, if◌then◌else◌}
 use Rattle.std.specs.List.{range_with_len, list_any}
 use Rattle.cla_spec.specs.Matrix.{most_cells}
-use Rattle.cla_group.specs.declared.row_counts.Occurrences.{Occurrences}
-use Rattle.cla_group.specs.Groups.{code_of}
-use Rattle.cla_group.specs.Counted.{AreCounted}
-use Rattle.cla_group.specs.Listed.{rows_of}
+use Rattle.cla_rows.specs.declared.row_counts.Occurrences.{Occurrences}
+use Rattle.cla_rows.specs.Chains.{lists_to, begins_to}
+use Rattle.cla_layout.specs.Groups.{code_of}
+use Rattle.cla_rows.specs.Counted.{AreCounted}
+use Rattle.cla_layout.specs.Listed.{rows_of}
 use Rattle.cla_offsets.specs.declared.lists.Lists.{Lists}
 use Rattle.cla_offsets.specs.Rows.{OffsetsOf}
 
@@ -29,15 +30,6 @@ segment_offsets codes k s = rows_of (segment_of codes s) k
 -- the rows that are listed of code k: those that have it, and none of the rest
 abbrev pub listed : List ℕ → ℕ → ℕ → List ℕ
 listed codes rest k = if k == rest then [] else rows_of codes k
-
--- the first n of some lists, one after the other
-unfoldable pub lists_to : (ℕ → List ℕ) → ℕ → List ℕ
-lists_to f zero = []
-lists_to f (suc n) = lists_to f n ++ f n
-
--- where each of them begins
-abbrev pub begins_to : (ℕ → List ℕ) → ℕ → List ℕ
-begins_to f n = lists_to (λ i. length (lists_to f i) ∷ []) n
 
 -- the list of each code in segment s
 abbrev pub list_of : OffsetsOf → ℕ → ℕ → List ℕ

@@ -1,9 +1,9 @@
 -- Walks over the rows of a segment.
 use Rattle.std.specs.Prelude.{◌≡◌, ℕ, ℤ, ◌+◌, ◌<◌, ◌≤◌, List, length, ◌==◌, if◌then◌else◌}
 use Rattle.std.specs.List.{list_any}
-use Rattle.cla_group.specs.declared.grouped.Grouped.{Grouped}
-use Rattle.cla_group.specs.Groups.{at, code_of, gathered_to}
-use Rattle.cla_group.specs.Grouped.{AreGrouped}
+use Rattle.cla_rows.specs.declared.grouped.Grouped.{Grouped}
+use Rattle.cla_layout.specs.Groups.{at, code_of, AreGathered}
+use Rattle.cla_rows.specs.Grouped.{AreGrouped}
 
 -- the rows of each code are grouped
 abbrev pub AreRowsByCode : ℕ → List ℕ → Grouped → Type 0
@@ -41,10 +41,6 @@ IsRising list = (m n : ℕ) → m < n → n < length list → code_of list m < c
 -- these are the codes of the rows from row `first` on
 abbrev pub AreCodesFrom : ℕ → List ℕ → List ℕ → Type 0
 AreCodesFrom first segment codes = (j : ℕ) → j < length segment → code_of codes (first + j) ≡ code_of segment j
-
--- each place is the sum of the items of its code, over the rows before row i
-abbrev pub AreGathered : List ℕ → List ℤ → ℕ → List ℤ → Type 0
-AreGathered codes items i into = (k : ℕ) → k < length into → at into k ≡ gathered_to codes items k i
 
 -- the places are such sums over the rows before row `first`, from which on the rows have these codes
 abbrev pub AreGatheredBefore : ℕ → List ℕ → List ℤ → List ℤ → Type 0

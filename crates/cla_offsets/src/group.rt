@@ -1,9 +1,9 @@
 //! The calls of a group of offset lists.
 
 ghost use Rattle.std.specs.Prelude.{◌≡◌, ◌<◌, ◌*◌, ◌/◌, false, length, IfOk};
-ghost use Rattle.cla_group.specs.Groups.{code_of, IsGroup};
-ghost use Rattle.cla_group.specs.Tuples.{AreCodes};
-ghost use Rattle.cla_group.specs.Listed.{is_rest, rest_of};
+ghost use Rattle.cla_layout.specs.Groups.{code_of, IsGroup};
+ghost use Rattle.cla_layout.specs.Tuples.{AreCodes};
+ghost use Rattle.cla_layout.specs.Listed.{is_rest, rest_of};
 ghost use Rattle.cla_offsets.specs.Segments.{segment_rows, segment_offsets};
 ghost use Rattle.cla_offsets.specs.Members.{tuples_in, offsets_columns, offsets_codes};
 ghost use Rattle.cla_offsets.specs.Members.{offsets_dictionary, offsets_rest};
@@ -31,8 +31,7 @@ impl<N: Number> Offsets<N> {
         ensures dictionary { IfOk result (λ g. offsets_dictionary g ≡ tuples_in N.value width values.items) }
         ensures rest { IfOk result (λ g. offsets_rest g ≡ rest_of codes.now (tuples_in N.value width values.items)) }
     {
-        let tuples = (values.len() / width as usize) as u32;
-        let dictionary = Dictionary::new(width, tuples, values);
+        let dictionary = Dictionary::of_values(width, values);
         Ok(Offsets::of_codes(alloc, dictionary, codes)?)
     }
 
@@ -48,7 +47,7 @@ impl<N: Number> Offsets<N> {
         ensures rest { IfOk result (λ g. offsets_rest g ≡ rest_of codes.now dictionary.tuples) }
     {
         let tuples = dictionary.len();
-        let rest = dictionary.rest().unwrap_or(tuples);
+        let rest = dictionary.rest_number();
         let rows = OffsetRows::from_codes(alloc, codes, tuples, rest)?;
         Ok(Offsets {
             dictionary,

@@ -2,13 +2,13 @@
 
 ghost use Rattle.std.specs.Prelude.{◌≡◌, ◌≤◌, ◌<◌, ◌+◌, ◌*◌, ◌++◌, ℕ, List, length, IfOk};
 ghost use Rattle.cla_spec.specs.Matrix.{most_cells};
-ghost use Rattle.cla_group.specs.Groups.{code_of};
+ghost use Rattle.cla_layout.specs.Groups.{code_of};
 ghost use Rattle.cla_offsets.specs.Rows.{OffsetsOf};
 ghost use Rattle.cla_offsets.specs.Segments.{segment_rows, segments_of, segment_of, listed, AreLists, AreAdded};
 ghost use Rattle.cla_offsets.specs.Walks.{AreRowsByCode};
 
-use cla_group::{Grouped, group_places};
 use cla_num::Memory;
+use cla_rows::{Grouped, group_places};
 use std::alloc::Global;
 
 /// How many rows a segment has. The last one may have fewer.

@@ -1,7 +1,7 @@
 //! Groups that keep a list of offsets for each segment and tuple.
 
 ghost use Rattle.std.specs.Prelude.{◌≡◌, length};
-ghost use Rattle.cla_group.specs.Groups.{IsGroup};
+ghost use Rattle.cla_layout.specs.Groups.{IsGroup};
 
 use crate::rows::OffsetRows;
 use cla_group::Dictionary;

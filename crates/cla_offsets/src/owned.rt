@@ -2,8 +2,8 @@
 
 ghost use Rattle.std.specs.Prelude.{◌≡◌, ◌<◌, ◌≤◌, ◌*◌, ◌-◌, length, IfOk};
 ghost use Rattle.cla_group.specs.Rows.{ArePlaces};
-ghost use Rattle.cla_group.specs.Renaming.{AreNumbered};
-ghost use Rattle.cla_group.specs.Listed.{rest_of};
+ghost use Rattle.cla_layout.specs.Groups.{AreNumbered};
+ghost use Rattle.cla_layout.specs.Listed.{rest_of};
 ghost use Rattle.cla_offsets.specs.Members.{offsets_columns, offsets_codes, offsets_dictionary};
 ghost use Rattle.cla_offsets.specs.Members.{offsets_rest, projected_tuples, revalued, IsSlice};
 

@@ -3,16 +3,18 @@
 ghost use Rattle.std.specs.Prelude.{◌≡◌, ◌≤◌, ◌<◌, ◌-◌, ◌*◌, ℕ, ℤ, length, map, take, drop, IfOk};
 ghost use Rattle.cla_spec.specs.Matrix.{most_cells};
 ghost use Rattle.cla_num.specs.Bits.{IsSupported};
-ghost use Rattle.cla_group.specs.Groups.{at, code_of, occurrences_of, first_row_of, Scattered};
+ghost use Rattle.cla_layout.specs.Groups.{at, code_of, occurrences_of, first_row_of, Scattered};
 ghost use Rattle.cla_offsets.specs.Segments.{segment_rows, segment_of, list_of, list_begin};
-ghost use Rattle.cla_offsets.specs.Walks.{MayScatter, MayBeJoined, AreJoined, AreGathered};
+ghost use Rattle.cla_offsets.specs.Walks.{MayScatter, MayBeJoined, AreJoined};
+ghost use Rattle.cla_layout.specs.Groups.{AreGathered};
 
 use crate::lists::{Lists, SEGMENT_ROWS, segment_count, segment_in};
 use crate::walks::{
     fill_codes, gather_codes, give_code, has_offset, join_codes, join_list, push_part,
 };
-use cla_group::{Join, Occurrences, counted};
+use cla_group::Join;
 use cla_num::{Memory, Number, Wide};
+use cla_rows::{Occurrences, counted};
 use std::alloc::Global;
 use std::marker::Model;
 

@@ -4,11 +4,12 @@ ghost use Rattle.std.specs.Prelude.{◌≡◌, ◌≤◌, ◌<◌, ◌+◌, ◌-
 ghost use Rattle.std.specs.List.{list_any};
 ghost use Rattle.cla_spec.specs.Matrix.{most_cells};
 ghost use Rattle.cla_num.specs.Bits.{IsSupported};
-ghost use Rattle.cla_group.specs.Groups.{code_of};
+ghost use Rattle.cla_layout.specs.Groups.{code_of};
 ghost use Rattle.cla_offsets.specs.Walks.{code_given, IsRising, MayBeJoined, AreJoined};
-ghost use Rattle.cla_offsets.specs.Walks.{MayListBeJoined, IsListJoined, AreCodesFrom, AreGathered, AreGatheredBefore};
+ghost use Rattle.cla_offsets.specs.Walks.{MayListBeJoined, IsListJoined, AreCodesFrom, AreGatheredBefore};
+ghost use Rattle.cla_layout.specs.Groups.{AreGathered};
 
-use cla_group::Join;
+use cla_group::{Join, gather_row};
 use cla_num::{Memory, Number, Wide};
 
 // Gives each place a code.
@@ -93,7 +94,6 @@ pub(crate) fn gather_codes<N: Number>(codes: &[u32], first: usize, rows: &[N], i
         AreGathered all items first into.old → AreGathered all items (first + length codes.now) into.new }
 {
     for j in 0..codes.len() {
-        let k = codes[j] as usize;
-        into[k] = into[k].plus(rows[first + j].wide());
+        gather_row(rows, first + j, codes[j] as usize, into);
     }
 }

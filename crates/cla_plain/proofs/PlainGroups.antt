@@ -2,11 +2,11 @@
 use Rattle.std.proofs.Common.{◌≡◌, ℕ, zero, suc, ℤ, ◌+◌, ◌-◌, ◌*◌, ◌/◌, ◌<◌, ◌≤◌, List, [], length, take, drop, ap, sym, ◌∙◌, arith}
 use Rattle.std.specs.List.{range_with_len}
 use Rattle.std.proofs.lemmas.List.{length-take-le, length-drop, get_or-take, get_or-drop}
-use Rattle.cla_group.specs.Groups.{at, value_of, cell_of, IsGroup}
+use Rattle.cla_layout.specs.Groups.{at, code_of, value_of, IsGroup}
 use Rattle.cla_group.specs.Rows.{AreRowsFrom}
-use Rattle.cla_group.specs.Renaming.{AreNumbered}
+use Rattle.cla_layout.specs.Groups.{AreNumbered}
 use Rattle.cla_group.specs.Dictionaries.{AreTuples, AreValues}
-use Rattle.cla_group.proofs.Counting.{rows_count, code_is, occurs_once, first_row_is}
+use Rattle.cla_layout.proofs.Counting.{rows_count, code_is, occurs_once, first_row_is}
 use Rattle.cla_plain.specs.Rows.{AreRows}
 
 -- row i has code i
@@ -40,42 +40,26 @@ rows_whole width values are =
     }
 
 -- the rows from row a to before row b
-module _ (width a b : ℕ) (tuples : List (List ℤ)) (some : a < b) (within : b ≤ length tuples) where
-  cut : List (List ℤ)
-  cut = take (b - a) (drop a tuples)
-
-  cut_count : length cut ≡ b - a
-  unfolding cut
-  cut_count = length-take-le (b - a) (drop a tuples) (omega (arith, length-drop a tuples, within))
-
-  cut_cell : (i c : ℕ) → i < b - a
-      → cell_of (range_with_len 0 (length cut)) cut i c ≡ cell_of (range_with_len 0 (length tuples)) tuples (a + i) c
-  unfolding cut
-  cut_cell i c row =
-      let old : a + i < length tuples = omega (arith, row, within) in
-      let new : i < length cut = omega (arith, row, cut_count) in
-      ap (λ (k : ℕ). value_of cut k c) (code_is (length cut) i new)
-      ∙ ap (λ (tuple : List ℤ). at tuple c) (get_or-take (b - a) (drop a tuples) i [] row ∙ get_or-drop a tuples i [])
-      ∙ ap (λ (k : ℕ). value_of tuples k c) (sym (code_is (length tuples) (a + i) old))
-
 pub rows_cut : (width a b : ℕ) (tuples : List (List ℤ)) → a < b → b ≤ length tuples →
     AreRowsFrom a (b - a) width (range_with_len 0 (length tuples)) tuples (range_with_len 0 (length (take (b - a) (drop a tuples))))
     (take (b - a) (drop a tuples))
-unfolding cut
 rows_cut width a b tuples some within =
-    let n = length (take (b - a) (drop a tuples)) in
-    let count : n ≡ b - a = cut_count width a b tuples some within in
-    let new_code : (i : ℕ) → i < b - a → i < n = (λ i row. omega (arith, row, count)) in
-    let old_code : (i : ℕ) → i < b - a → a + i < length tuples = (λ i row. omega (arith, row, within)) in
+    let cut = take (b - a) (drop a tuples) in
+    let count : length cut ≡ b - a = length-take-le (b - a) (drop a tuples) (omega (arith, length-drop a tuples, within)) in
+    let new : (i : ℕ) → i < b - a → code_of (range_with_len 0 (length cut)) i ≡ i =
+    (λ i row. code_is (length cut) i (omega (arith, row, count))) in
+    let old : (i : ℕ) → i < b - a → code_of (range_with_len 0 (length tuples)) (a + i) ≡ a + i =
+    (λ i row. code_is (length tuples) (a + i) (omega (arith, row, within))) in
     record {
-      rows = rows_count n ∙ count;
-      cells = λ i c row place. cut_cell width a b tuples some within i c row;
-      alike = λ i j row other.
-          (let i_new = code_is n i (new_code i row) in
-          let j_new = code_is n j (new_code j other) in
-          let i_old = code_is (length tuples) (a + i) (old_code i row) in
-          let j_old = code_is (length tuples) (a + j) (old_code j other) in
-          (λ same. omega (arith, same, i_new, j_new, i_old, j_old), λ same. omega (arith, same, i_new, j_new, i_old, j_old)));
+      rows = rows_count (length cut) ∙ count;
+      cells = λ i c row place.
+          ap (λ (k : ℕ). value_of cut k c) (new i row)
+          ∙ ap (λ (tuple : List ℤ). at tuple c) (get_or-take (b - a) (drop a tuples) i [] row ∙ get_or-drop a tuples i [])
+          ∙ ap (λ (k : ℕ). value_of tuples k c) (sym (old i row));
+      alike = λ i j row other. (
+        (λ same. omega (arith, same, new i row, new j other, old i row, old j other)),
+        (λ same. omega (arith, same, new i row, new j other, old i row, old j other)),
+      );
     }
 
 pub rows_numbered : (n : ℕ) → AreNumbered (range_with_len 0 n) n

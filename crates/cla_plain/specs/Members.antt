@@ -6,7 +6,7 @@ use Rattle.std.specs.declared.cmp.PartialEq as partial_eq
 use Rattle.std.specs.declared.cmp.PartialOrd as partial_ord
 use Rattle.std.specs.declared.hash.Hash as hash
 use Rattle.cla_num.specs.declared.number.Number as number
-use Rattle.cla_group.specs.Groups.{IsGroup}
+use Rattle.cla_layout.specs.Groups.{IsGroup}
 use Rattle.cla_plain.specs.declared.plain.Plain.{Plain}
 
 module _ {N : Type 0} {n : number.Ghosts N} {o : ord.Ghosts N} {e : partial_eq.Ghosts N} {p : partial_ord.Ghosts N} {h : hash.Ghosts N} where

@@ -2,8 +2,8 @@
 
 ghost use Rattle.std.specs.Prelude.{◌≡◌, ◌*◌, ◌/◌, length, map, IfOk, IsOk};
 ghost use Rattle.std.specs.List.{range_with_len};
-ghost use Rattle.cla_group.specs.Groups.{IsGroup};
-ghost use Rattle.cla_group.specs.Tuples.{tuples_of};
+ghost use Rattle.cla_layout.specs.Groups.{IsGroup};
+ghost use Rattle.cla_layout.specs.Tuples.{tuples_of};
 ghost use Rattle.cla_plain.specs.Rows.{AreRows};
 
 use cla_group::{Dictionary, Group, Owned};
@@ -37,7 +37,7 @@ impl<N: Number> Plain<N> {
     }
 }
 
-#[tactic(auto, using(cla_group::proofs::Counting::rows_count, cla_group::proofs::Counting::code_is, cla_group::proofs::Counting::first_row_is))]
+#[tactic(auto, using(cla_layout::proofs::Counting::rows_count, cla_layout::proofs::Counting::code_is, cla_layout::proofs::Counting::first_row_is))]
 impl<N: Number> Group<N> for Plain<N> {
     ghost columns = { λ p. p.dictionary.width };
 
@@ -76,7 +76,7 @@ impl<N: Number> Group<N> for Plain<N> {
     ghost laws = { λ p. p.is };
 }
 
-#[tactic(auto, using(cla_group::proofs::Counting::rows_count))]
+#[tactic(auto, using(cla_layout::proofs::Counting::rows_count))]
 impl<N: Number> Owned<N> for Plain<N> {
     fn slice_rows(&self, alloc: Global, a: u32, b: u32) -> Result<Self, Memory> {
         Ok(Plain {

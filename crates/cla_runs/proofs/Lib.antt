@@ -1,5 +1,2 @@
-pub mod RunBounds
 pub mod RunsMade
 pub mod WalkSteps
-pub mod RunsOfCode
-pub mod RestKept

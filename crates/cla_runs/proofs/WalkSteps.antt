@@ -2,9 +2,9 @@
 use Rattle.std.proofs.Common.{◌≡◌, ℕ, ℤ, pos, zero, suc, ◌+◌, ◌-◌, ◌<◌, ◌≤◌, List, length, set, max, min, ap, sym, ◌∙◌, arith, inl, inr}
 use Rattle.std.proofs.lemmas.Bool.{cases_eq, cases_lt}
 use Rattle.std.proofs.lemmas.List.{get_or-set_same, get_or-set_other, length-set}
-use Rattle.cla_group.specs.Groups.{at, code_of, gathered_to}
+use Rattle.cla_layout.specs.Groups.{at, code_of, gathered_to}
 use Rattle.cla_group.proofs.Gathered.{gathered_elsewhere}
-use Rattle.cla_runs.specs.RunBounds.{IsStretch}
+use Rattle.cla_rows.specs.RunBounds.{IsStretch}
 use Rattle.cla_runs.specs.Walks.{AreJoinedTo, AreGatheredTo, AreCodedTo}
 
 -- the rows of the next stretch can be joined with the part of its code

@@ -1,5 +1,3 @@
-pub mod RunBounds
-pub mod CodeRuns
 pub mod RunLists
 pub mod Rows
 pub mod Walks

@@ -5,7 +5,7 @@ use Rattle.std.specs.declared.cmp.PartialEq as partial_eq
 use Rattle.std.specs.declared.cmp.PartialOrd as partial_ord
 use Rattle.std.specs.declared.hash.Hash as hash
 use Rattle.cla_num.specs.declared.number.Number as number
-use Rattle.cla_group.specs.Groups.{IsGroup}
+use Rattle.cla_layout.specs.Groups.{IsGroup}
 use Rattle.cla_runs.specs.Rows.{rest_in}
 use Rattle.cla_runs.specs.declared.runs.Runs.{Runs}
 

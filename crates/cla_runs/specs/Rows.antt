@@ -1,10 +1,10 @@
 -- What contracts see of rows that are kept as runs.
 use Rattle.std.specs.Prelude.{ℕ, ◌<◌, ◌≤◌, List, length, Option, Some, None, nat_lt, if◌then◌else◌}
 use Rattle.cla_spec.specs.Matrix.{most_cells}
-use Rattle.cla_group.specs.Groups.{code_of}
-use Rattle.cla_group.specs.Counted.{AreCounted}
-use Rattle.cla_group.specs.declared.row_counts.Occurrences.{Occurrences}
-use Rattle.cla_runs.specs.RunBounds.{codes_in_runs}
+use Rattle.cla_layout.specs.Groups.{code_of}
+use Rattle.cla_rows.specs.Counted.{AreCounted}
+use Rattle.cla_rows.specs.declared.row_counts.Occurrences.{Occurrences}
+use Rattle.cla_rows.specs.RunBounds.{codes_in_runs}
 use Rattle.cla_runs.specs.RunLists.{AreRunsIn}
 use Rattle.cla_runs.specs.declared.run_list.RunList.{RunList}
 

@@ -1,8 +1,8 @@
 -- Lists of runs.
 use Rattle.std.specs.Prelude.{ℕ, ◌+◌, List}
-use Rattle.cla_group.specs.Groups.{code_of}
-use Rattle.cla_group.specs.Listed.{rows_of}
-use Rattle.cla_runs.specs.RunBounds.{AreRuns, AreMore}
+use Rattle.cla_layout.specs.Groups.{code_of}
+use Rattle.cla_layout.specs.Listed.{rows_of}
+use Rattle.cla_rows.specs.RunBounds.{AreRuns, AreMore}
 use Rattle.cla_runs.specs.declared.run_list.RunList.{RunList}
 
 -- these are the maximal runs in the first rows of codes

@@ -1,7 +1,7 @@
 -- Walks over rows, stretch by stretch: what has come of the rows before row `to`.
 use Rattle.std.specs.Prelude.{◌≡◌, ℕ, ℤ, ◌+◌, ◌<◌, ◌≤◌, List, length}
-use Rattle.cla_group.specs.Groups.{at, code_of, gathered_to}
-use Rattle.cla_runs.specs.RunBounds.{IsStretch}
+use Rattle.cla_layout.specs.Groups.{at, code_of, gathered_to}
+use Rattle.cla_rows.specs.RunBounds.{IsStretch}
 
 -- each of them is joined with the part of its code, and the others are as they were
 pub record AreJoinedTo (to : ℕ) (join : ℤ → ℤ → ℤ) (codes : List ℕ) (parts old new : List ℤ) : Type 0 where

@@ -3,15 +3,16 @@
 ghost use Rattle.std.specs.Prelude.{◌≡◌, ◌≤◌, ◌<◌, ◌+◌, ◌-◌, ℕ, length, map, take, drop, IfOk};
 ghost use Rattle.cla_spec.specs.Matrix.{most_cells};
 ghost use Rattle.cla_num.specs.Bits.{IsSupported};
-ghost use Rattle.cla_group.specs.Groups.{at, code_of, occurrences_of, first_row_of, gathered, Scattered};
-ghost use Rattle.cla_group.specs.Listed.{run_begins};
-ghost use Rattle.cla_group.specs.Grouped.{AreGrouped};
-ghost use Rattle.cla_runs.specs.CodeRuns.{IsRun, IsListedRun, listed_begins, listed_keys, AreRunsByKey};
+ghost use Rattle.cla_layout.specs.Groups.{at, code_of, occurrences_of, first_row_of, gathered, Scattered};
+ghost use Rattle.cla_layout.specs.Listed.{run_begins};
+ghost use Rattle.cla_rows.specs.Grouped.{AreGrouped};
+ghost use Rattle.cla_rows.specs.CodeRuns.{IsRun, IsListedRun, listed_begins, listed_keys, AreRunsByKey};
 
 use crate::run_list::{RunList, list_runs};
 use crate::walks::{gather_between, give_code, join_between, part_of};
-use cla_group::{Grouped, Join, Occurrences, counted, group_places};
+use cla_group::Join;
 use cla_num::{Memory, Number, Wide};
+use cla_rows::{Grouped, Occurrences, counted, group_places};
 use std::alloc::Global;
 use std::marker::Model;
 

@@ -1,12 +1,12 @@
 //! Groups that are kept as runs.
 
 ghost use Rattle.std.specs.Prelude.{◌≡◌, ◌*◌, ◌-◌, ◌/◌, ◌<◌, ◌≤◌, false, length, map, IfOk, IfSome};
-ghost use Rattle.cla_group.specs.Groups.{IsGroup};
-ghost use Rattle.cla_group.specs.Listed.{rest_of, is_rest, run_begins};
-ghost use Rattle.cla_group.specs.Renaming.{AreNumbered};
+ghost use Rattle.cla_layout.specs.Groups.{IsGroup};
+ghost use Rattle.cla_layout.specs.Listed.{rest_of, is_rest, run_begins};
+ghost use Rattle.cla_layout.specs.Groups.{AreNumbered};
 ghost use Rattle.cla_group.specs.Rows.{AreRowsFrom, ArePlaces, projected};
-ghost use Rattle.cla_group.specs.Tuples.{AreCodes, tuples_of};
-ghost use Rattle.cla_runs.specs.CodeRuns.{IsRun};
+ghost use Rattle.cla_layout.specs.Tuples.{AreCodes, tuples_of};
+ghost use Rattle.cla_rows.specs.CodeRuns.{IsRun};
 ghost use Rattle.cla_runs.specs.Rows.{rest_in};
 
 use crate::run_rows::{Run, RunRows};
@@ -17,7 +17,7 @@ use std::rc::Rc;
 
 /// A group whose rows are kept as runs (PVLDB 9(12): run-length encoding, RLE): where the maximal runs of
 /// rows of each tuple begin and end, in the order of rows, and the dictionary. One tuple may be the rest,
-/// whose rows are those between the runs; [`cla_group::rest_tuple`] says which.
+/// whose rows are those between the runs; [`Dictionary::rest`] says which.
 ///
 /// It keeps 12 bytes a run, 8 a tuple, and the tuples. Groups that differ in their values or columns alone
 /// share the rows.
@@ -31,7 +31,7 @@ pub struct Runs<N: Number> {
 
 impl<N: Number> Runs<N> {
     /// The group of rows with these codes. Its tuples stand one after the other, with `width` values
-    /// each, and each of them is the code of some row. The rest is that of [`cla_group::rest_tuple`]. It
+    /// each, and each of them is the code of some row. The rest is that of [`Dictionary::rest`]. It
     /// costs three passes over the rows.
     pub fn from_codes(
         alloc: Global,
@@ -48,8 +48,7 @@ impl<N: Number> Runs<N> {
         ensures rest { IfOk result
             (λ g. rest_in g.rows.value ≡ rest_of codes.now (⟦<Runs<N> as Group<N>>⟧.dictionary g)) }
     {
-        let tuples = (values.len() / width as usize) as u32;
-        let dictionary = Dictionary::new(width, tuples, values);
+        let dictionary = Dictionary::of_values(width, values);
         Ok(Runs::of_rows(alloc, codes, dictionary)?)
     }
 
@@ -61,7 +60,7 @@ impl<N: Number> Runs<N> {
         ensures rest { IfOk result (λ g. rest_in g.rows.value ≡ rest_of codes.now dictionary.tuples) }
     {
         let tuples = dictionary.len();
-        let rest = dictionary.rest().unwrap_or(tuples);
+        let rest = dictionary.rest_number();
         let rows = RunRows::from_codes(alloc, codes, tuples, rest)?;
         Ok(Runs {
             dictionary,

@@ -3,10 +3,10 @@
 ghost use Rattle.std.specs.Prelude.{◌≡◌, ◌≤◌, ◌<◌, ◌+◌, ℕ, List, length, map};
 ghost use Rattle.cla_spec.specs.Matrix.{most_cells};
 ghost use Rattle.cla_num.specs.Bits.{IsSupported};
-ghost use Rattle.cla_group.specs.Groups.{at, code_of};
+ghost use Rattle.cla_layout.specs.Groups.{at, code_of};
 ghost use Rattle.cla_runs.specs.Walks.{JoinsOn, AreGatheredTo, GathersOn};
 
-use cla_group::Join;
+use cla_group::{Join, with_item};
 use cla_num::{Number, Wide};
 
 // The part of code k; 0 where there is none.
@@ -48,7 +48,7 @@ pub(crate) fn gather_between<N: Number>(rows: &[N], k: u32, a: u32, b: u32, into
     }
     let mut total = into[k as usize];
     for i in a as usize..b as usize {
-        total = total.plus(rows[i].wide());
+        total = with_item(total, rows, i);
     }
     into[k as usize] = total;
 }

@@ -1,7 +1,7 @@
 use Rattle.std.proofs.Common.{◌≡◌, ◌/◌, ◌≤◌, ◌<◌, ◌^◌, length, map, refl, arith, rules}
 use Rattle.std.specs.Prelude.{vec_len}
-use Rattle.cla_group.proofs.Coded.{tuples_few, codes_few}
-use Rattle.cla_group.proofs.Tuples.{tuples_count}
+use Rattle.cla_layout.proofs.Coded.{tuples_few, codes_few}
+use Rattle.cla_layout.proofs.Tuples.{tuples_count}
 use Rattle.cla_coded.proofs.AnyRows.{two_bytes, four_bytes, codes_from}
 use Rattle.cla_coded.proofs.any_group.from_codes_of_rows.Goals as goal
 

@@ -1,9 +1,10 @@
 use Rattle.std.proofs.Common.{◌≡◌, ◌/◌, length, sym, subst, refl}
 use Rattle.cla_plain.proofs.Shapes.{whole_rows, rows_of_shape}
-use Rattle.cla_coded.specs.Layouts.{IsWhole, layout_with, loose_layout}
+use Rattle.cla_layout.specs.Layouts.{IsWhole, layout_with, loose_layout}
 use Rattle.cla_coded.specs.Parts.{parts_of}
 use Rattle.cla_coded.specs.AnyGroups.{any_codes, any_dictionary}
-use Rattle.cla_coded.proofs.Copies.{loose_whole, one_plain_part}
+use Rattle.cla_coded.proofs.Copies.{one_plain_part}
+use Rattle.cla_layout.proofs.Loose.{loose_whole}
 use Rattle.cla_coded.proofs.coded.loose.Goals as goal
 use Rattle.cla_coded.proofs.coded.loose.Goals.{In_ok-push}
 use Rattle.cla_coded.proofs.coded.loose.Given.{Over}

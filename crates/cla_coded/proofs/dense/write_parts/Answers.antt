@@ -1,8 +1,8 @@
 use Rattle.std.proofs.Common.{◌<◌, length, map, subst, sym}
-use Rattle.cla_coded.specs.Layouts.{LayoutPart}
+use Rattle.cla_layout.specs.Layouts.{LayoutPart}
 use Rattle.cla_coded.specs.Parts.{parts_of}
 use Rattle.cla_coded.specs.Places.{IsPartWritten}
-use Rattle.cla_coded.proofs.Columns.{part_of_item, parts_count}
+use Rattle.cla_coded.proofs.Outlines.{part_of_item, parts_count}
 use Rattle.cla_coded.proofs.DenseLaws.{part_in, parts_step, all_written}
 use Rattle.cla_coded.proofs.dense.write_parts.Goals as goal
 

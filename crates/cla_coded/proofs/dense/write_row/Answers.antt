@@ -1,10 +1,10 @@
 use Rattle.std.proofs.Common.{◌≡◌, ◌<◌, length, map, ◌∙◌, arith}
 use Rattle.std.proofs.lemmas.List.{map-set, length-map}
-use Rattle.cla_group.specs.Groups.{value_of}
-use Rattle.cla_coded.specs.Layouts.{column_at}
-use Rattle.cla_coded.proofs.Columns.{column_read}
+use Rattle.cla_layout.specs.Groups.{value_of}
+use Rattle.cla_layout.specs.Layouts.{column_at}
+use Rattle.cla_layout.proofs.Columns.{column_read}
 use Rattle.cla_coded.proofs.CellPlaces.{column_step}
-use Rattle.cla_coded.proofs.Wholes.{same_width}
+use Rattle.cla_layout.proofs.Wholes.{same_width}
 use Rattle.cla_coded.proofs.dense.write_row.Goals as goal
 
 pub loop-c-preserved : goal.loop-c-preserved

@@ -1,5 +1,5 @@
 use Rattle.std.proofs.Common.{map}
-use Rattle.cla_group.specs.Groups.{value_of}
+use Rattle.cla_layout.specs.Groups.{value_of}
 use Rattle.cla_coded.proofs.CellPlaces.{RowWrittenTo}
 use Rattle.cla_coded.proofs.dense.write_row.Given as goal
 

@@ -1,5 +1,5 @@
 use Rattle.std.proofs.Common.{map, arith}
-use Rattle.cla_group.proofs.Regroup.{first_row_there}
+use Rattle.cla_layout.proofs.Regroup.{first_row_there}
 use Rattle.cla_coded.specs.Parts.{part_of}
 use Rattle.cla_coded.proofs.CellPlaces.{tuple_step}
 use Rattle.cla_coded.proofs.dense.write_tuples.Goals as goal

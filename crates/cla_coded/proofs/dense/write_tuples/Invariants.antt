@@ -1,5 +1,5 @@
 use Rattle.std.proofs.Common.{map, ltb}
-use Rattle.cla_group.specs.Groups.{code_of}
+use Rattle.cla_layout.specs.Groups.{code_of}
 use Rattle.cla_coded.specs.Parts.{part_of}
 use Rattle.cla_coded.specs.Places.{AreRowsWritten}
 use Rattle.cla_coded.proofs.dense.write_tuples.Given as goal

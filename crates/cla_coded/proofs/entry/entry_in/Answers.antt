@@ -1,27 +1,18 @@
 use Rattle.std.proofs.Common.{arith, inl, inr}
 use Rattle.std.proofs.lemmas.Bool.{cases_eq}
 use Rattle.cla_coded.specs.Parts.{parts_of}
-use Rattle.cla_coded.proofs.Columns.{entry_at, nowhere_listed, part_of_item, parts_count}
+use Rattle.cla_layout.proofs.Columns.{entry_at, nowhere_listed}
+use Rattle.cla_coded.proofs.Outlines.{part_of_item, part_of_whole, parts_count}
 use Rattle.cla_coded.proofs.entry.entry_in.Goals as goal
 
 pub value_in-requires-clause-part : goal.value_in-requires-clause-part
 value_in-requires-clause-part g c =
-    let codes_of = g.G.Group.codes in
-    let dictionary_of = g.G.Group.dictionary in
-    let parts = c.args.parts.now in
-    let is = part_of_item codes_of dictionary_of parts c.loop-part.part-index c.part-item.result c.loop-part-test.true c.part-item.is in
-    let part = rw is at (c.requires.2.each c.loop-part.part-index (rw (parts_count codes_of dictionary_of parts) c.loop-part-test.true))
-    in
+    let part = part_of_whole _ _ _ _ _ c.args.parts.now _ _ c.requires.2 c.loop-part-test.true c.part-item.is in
     rw part.a_code_each part
 
 pub value_in-requires-clause-row : goal.value_in-requires-clause-row
 value_in-requires-clause-row g c =
-    let codes_of = g.G.Group.codes in
-    let dictionary_of = g.G.Group.dictionary in
-    let parts = c.args.parts.now in
-    let is = part_of_item codes_of dictionary_of parts c.loop-part.part-index c.part-item.result c.loop-part-test.true c.part-item.is in
-    let part = rw is at (c.requires.2.each c.loop-part.part-index (rw (parts_count codes_of dictionary_of parts) c.loop-part-test.true))
-    in
+    let part = part_of_whole _ _ _ _ _ c.args.parts.now _ _ c.requires.2 c.loop-part-test.true c.part-item.is in
     omega (arith, part.a_code_each, c.requires.3)
 
 pub returns-in-Some : goal.returns-in-Some

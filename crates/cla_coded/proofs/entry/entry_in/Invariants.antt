@@ -1,5 +1,5 @@
 use Rattle.std.proofs.Common.{◌≡◌, ◌<◌, ℕ, false}
-use Rattle.cla_coded.specs.Layouts.{part_at, has_column}
+use Rattle.cla_layout.specs.Layouts.{part_at, has_column}
 use Rattle.cla_coded.specs.Parts.{parts_of}
 use Rattle.cla_coded.proofs.entry.entry_in.Given as goal
 

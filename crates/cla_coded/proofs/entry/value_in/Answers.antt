@@ -1,6 +1,6 @@
 use Rattle.std.proofs.Common.{arith}
 use Rattle.std.proofs.lemmas.Bool.{lt-ltb, le-ltb}
-use Rattle.cla_coded.proofs.Columns.{column_found, column_missing}
+use Rattle.cla_layout.proofs.Columns.{column_found, column_missing}
 use Rattle.cla_coded.proofs.entry.value_in.Goals as goal
 
 pub returns-in-Ok : goal.returns-in-Ok

@@ -1,5 +1,5 @@
 use Rattle.std.proofs.Common.{rules, ◌<◌, arith}
-use Rattle.cla_group.specs.Groups.{code_of}
+use Rattle.cla_layout.specs.Groups.{code_of}
 use Rattle.cla_group_bench.proofs.input.are_codes.Goals as goal
 
 pub returns : goal.returns

@@ -1,5 +1,5 @@
 use Rattle.std.proofs.Common.{◌<◌, ℕ}
-use Rattle.cla_group.specs.Groups.{code_of}
+use Rattle.cla_layout.specs.Groups.{code_of}
 use Rattle.cla_group_bench.proofs.input.are_some.Given as goal
 
 -- the counts before this one are above 0

@@ -1,5 +1,5 @@
 use Rattle.std.proofs.Common.{rules, ◌≡◌, ◌/◌, length, arith}
-use Rattle.cla_group.specs.Tuples.{AreCodes}
+use Rattle.cla_layout.specs.Tuples.{AreCodes}
 use Rattle.cla_group_bench.proofs.input.group_of.Goals as goal
 
 pub from_codes-requires : goal.from_codes-requires

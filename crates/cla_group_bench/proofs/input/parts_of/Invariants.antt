@@ -2,7 +2,7 @@ use Rattle.std.proofs.Common.{◌≡◌, ◌<◌, ℕ, pos, length}
 use Rattle.std.specs.Prelude.{◌+ℤ◌}
 use Rattle.std.specs.Int.{w128}
 use Rattle.std.specs.Int.RustNames.{FitsSigned}
-use Rattle.cla_group.specs.Groups.{at}
+use Rattle.cla_layout.specs.Groups.{at}
 use Rattle.cla_group_bench.proofs.input.parts_of.Given as goal
 
 -- the parts before this one, each of which may be added to 0

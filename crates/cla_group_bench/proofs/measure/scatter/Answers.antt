@@ -1,5 +1,5 @@
 use Rattle.std.proofs.Common.{◌<◌, length, arith}
-use Rattle.cla_group.specs.Groups.{code_of, IsGroup}
+use Rattle.cla_layout.specs.Groups.{code_of, IsGroup}
 use Rattle.cla_coded.specs.AnyGroups.{any_columns, any_codes, any_dictionary, any_law}
 use Rattle.cla_group_bench.proofs.measure.scatter.Goals as goal
 

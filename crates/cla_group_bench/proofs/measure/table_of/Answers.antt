@@ -1,4 +1,4 @@
-use Rattle.cla_group.specs.Groups.{IsGroup}
+use Rattle.cla_layout.specs.Groups.{IsGroup}
 use Rattle.cla_coded.specs.AnyGroups.{any_columns, any_codes, any_dictionary, any_law}
 use Rattle.cla_group_bench.proofs.OneGroup.{one_group_whole}
 use Rattle.cla_group_bench.proofs.measure.table_of.Goals as goal

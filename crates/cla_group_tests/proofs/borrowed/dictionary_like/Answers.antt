@@ -1,7 +1,7 @@
 use Rattle.std.proofs.Common.{◌≡◌, ◌*◌, length, map, vec_len, rules, ap, ◌∙◌, arith}
 use Rattle.cla_group.specs.Dictionaries.{DictionaryOf}
-use Rattle.cla_group.proofs.Cells.{values_few}
-use Rattle.cla_group.proofs.Tuples.{tuples_count}
+use Rattle.cla_layout.proofs.Cells.{values_few}
+use Rattle.cla_layout.proofs.Tuples.{tuples_count}
 use Rattle.cla_group_tests.proofs.borrowed.dictionary_like.Goals as goal
 
 pub value-requires-clause-tuple : goal.value-requires-clause-tuple

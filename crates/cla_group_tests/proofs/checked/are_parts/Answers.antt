@@ -1,6 +1,6 @@
 use Rattle.std.proofs.Common.{◌≡◌, map, refl, ap, sym, subst, ◌∙◌, below_more}
 use Rattle.std.proofs.lemmas.List.{get_or-map}
-use Rattle.cla_coded.specs.Layouts.{LayoutPart, IsPart, part_at, no_part}
+use Rattle.cla_layout.specs.Layouts.{LayoutPart, IsPart, part_at, no_part}
 use Rattle.cla_coded.specs.Parts.{part_of}
 use Rattle.cla_group_tests.proofs.checked.are_parts.Goals as goal
 

@@ -1,5 +1,5 @@
 use Rattle.std.proofs.Common.{◌<◌, ℕ}
-use Rattle.cla_coded.specs.Layouts.{IsPart, part_at}
+use Rattle.cla_layout.specs.Layouts.{IsPart, part_at}
 use Rattle.cla_coded.specs.Parts.{parts_of}
 use Rattle.cla_group_tests.proofs.checked.are_parts.Given as goal
 

@@ -1,6 +1,6 @@
 use Rattle.std.proofs.Common.{◌++◌, ℕ, List, take, ap, ◌∙◌}
 use Rattle.std.proofs.lemmas.List.{length-map, take_all}
-use Rattle.cla_coded.specs.Layouts.{all_columns}
+use Rattle.cla_layout.specs.Layouts.{all_columns}
 use Rattle.cla_coded.specs.Parts.{part_of, parts_of}
 use Rattle.cla_group_tests.proofs.ListedColumns.{columns_taken}
 use Rattle.cla_group_tests.proofs.checked.columns_of.Goals as goal

@@ -1,5 +1,5 @@
 use Rattle.std.proofs.Common.{◌≡◌, take}
-use Rattle.cla_coded.specs.Layouts.{all_columns}
+use Rattle.cla_layout.specs.Layouts.{all_columns}
 use Rattle.cla_coded.specs.Parts.{parts_of}
 use Rattle.cla_group_tests.proofs.checked.columns_of.Given as goal
 

@@ -1,6 +1,6 @@
 use Rattle.std.proofs.Common.{◌≡◌, ◌<◌, length, sym, arith, rules}
 use Rattle.cla_num.proofs.Sizes.{plus_size, fits_by_size}
-use Rattle.cla_group.specs.Groups.{at, code_of}
+use Rattle.cla_layout.specs.Groups.{at, code_of}
 use Rattle.cla_group_tests.proofs.Smalls.{AreSmall}
 use Rattle.cla_group_tests.proofs.group_calls.joined_by.Goals as goal
 

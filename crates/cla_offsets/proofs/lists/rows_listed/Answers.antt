@@ -1,6 +1,6 @@
 use Rattle.std.proofs.Common.{[], Bool, cond, ap, sym, ◌∙◌}
 use Rattle.std.proofs.lemmas.Bool.{ne_eqb}
-use Rattle.cla_group.specs.Listed.{rows_of}
+use Rattle.cla_layout.specs.Listed.{rows_of}
 use Rattle.cla_offsets.proofs.lists.rows_listed.Goals as goal
 
 pub returns-else-k-rest : goal.returns-else-k-rest

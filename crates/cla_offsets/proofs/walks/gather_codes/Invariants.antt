@@ -1,5 +1,6 @@
 use Rattle.std.proofs.Common.{◌+◌, ℕ, List, map}
-use Rattle.cla_offsets.specs.Walks.{AreCodesFrom, AreGathered}
+use Rattle.cla_offsets.specs.Walks.{AreCodesFrom}
+use Rattle.cla_layout.specs.Groups.{AreGathered}
 use Rattle.cla_offsets.proofs.walks.gather_codes.Given as goal
 
 -- the items before item j are added

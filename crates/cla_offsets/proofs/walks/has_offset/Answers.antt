@@ -5,7 +5,7 @@ use Rattle.std.proofs.lemmas.Bool.{cases_lt, eq-eqb, ne_eqb}
 use Rattle.std.proofs.lemmas.List.Elements.{All-from_get_or}
 use Rattle.std.proofs.lemmas.List.Folds.{list_any_at, list_any_none}
 use Rattle.std.proofs.lemmas.List.Sorted.{searched}
-use Rattle.cla_group.specs.Groups.{code_of}
+use Rattle.cla_layout.specs.Groups.{code_of}
 use Rattle.cla_offsets.proofs.walks.has_offset.Goals as goal
 
 -- where x stands, or else those before it are below it, and those after it above

@@ -2,7 +2,7 @@ use Rattle.std.proofs.Common.{◌≡◌, ◌<◌, ◌+◌, List, ℕ, ℤ, pos, 
 use Rattle.std.specs.Prelude.{slice_set}
 use Rattle.std.proofs.lemmas.Bool.{cases_eq}
 use Rattle.std.proofs.lemmas.List.{get_or_default, get_or-set_same, get_or-set_other}
-use Rattle.cla_group.specs.Groups.{at, code_of}
+use Rattle.cla_layout.specs.Groups.{at, code_of}
 use Rattle.cla_offsets.specs.Walks.{IsRising}
 use Rattle.cla_offsets.proofs.walks.join_list.Goals as goal
 

@@ -1,5 +1,5 @@
 use Rattle.std.proofs.Common.{◌≡◌, ◌<◌, ◌+◌, ℕ}
-use Rattle.cla_group.specs.Groups.{at, code_of}
+use Rattle.cla_layout.specs.Groups.{at, code_of}
 use Rattle.cla_offsets.proofs.walks.join_list.Given as goal
 
 -- the places so far are joined, and no others

@@ -1,8 +1,8 @@
 use Rattle.std.proofs.Common.{◌≡◌, ◌≤◌, ◌*◌, ℕ, List, map}
 use Rattle.std.specs.Int.RustNames.{unsigned_abs}
 use Rattle.cla_num.specs.Bits.{value_bound}
-use Rattle.cla_group.specs.Groups.{at, gathered_to}
-use Rattle.cla_runs.specs.RunBounds.{IsStretch}
+use Rattle.cla_layout.specs.Groups.{at, gathered_to}
+use Rattle.cla_rows.specs.RunBounds.{IsStretch}
 use Rattle.cla_runs.proofs.walks.gather_between.Given as goal
 
 -- the items of the rows before row i are added

@@ -1,5 +1,5 @@
 use Rattle.std.proofs.Common.{◌≡◌, ◌<◌, ◌≤◌, ℕ}
-use Rattle.cla_group.specs.Groups.{at}
+use Rattle.cla_layout.specs.Groups.{at}
 use Rattle.cla_runs.proofs.walks.join_between.Given as goal
 
 -- the rows before row i are joined

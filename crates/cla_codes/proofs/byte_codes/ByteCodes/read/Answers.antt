@@ -1,6 +1,6 @@
 use Rattle.std.proofs.Common.{◌≡◌, ◌≢◌, ◌<◌, ◌≤◌, ◌+◌, ◌∙◌, length, take, drop, arith, sym, below_more, get_or-set_other, get_or-set_same}
 use Rattle.std.proofs.lemmas.List.{ext_get_or, length-take-le, length-drop, get_or-take, get_or-drop}
-use Rattle.cla_group.specs.Groups.{code_of}
+use Rattle.cla_layout.specs.Groups.{code_of}
 use Rattle.cla_codes.specs.Bytes.{codes_in}
 use Rattle.cla_codes.proofs.CodeBytes.{codes_count, code_in, bytes_within}
 use Rattle.cla_codes.proofs.byte_codes.ByteCodes.read.Goals as goal

@@ -1,5 +1,5 @@
 use Rattle.std.proofs.Common.{◌≡◌, ◌<◌, ◌+◌, ℕ}
-use Rattle.cla_group.specs.Groups.{code_of}
+use Rattle.cla_layout.specs.Groups.{code_of}
 use Rattle.cla_codes.proofs.byte_codes.ByteCodes.read.Given as goal
 
 -- the places before place i have their codes

@@ -1,14 +1,11 @@
 use Rattle.std.proofs.Common.{◌≡◌, ◌<◌, ℕ, ℤ, List, length, map, ap, arith}
-use Rattle.cla_group.specs.Groups.{code_of}
-use Rattle.cla_group.specs.Tuples.{tuples_of}
-use Rattle.cla_group.specs.Renaming.{AreInOrder}
-use Rattle.cla_group.proofs.Tuples.{tuples_count}
-use Rattle.cla_group.proofs.Dictionaries.{in_order_tuples}
-use Rattle.cla_group.specs.Dictionaries.{DictionaryOf, in_order}
+use Rattle.cla_layout.specs.Groups.{code_of}
+use Rattle.cla_layout.specs.Tuples.{tuples_of}
+use Rattle.cla_group.specs.Dictionaries.{AreInOrder}
+use Rattle.cla_layout.proofs.Tuples.{tuples_count}
+use Rattle.cla_group.proofs.Dictionaries.{in_order_tuples, the_dictionary}
+use Rattle.cla_group.specs.Dictionaries.{in_order}
 use Rattle.cla_group.proofs.dictionary.Dictionary.reorder.Goals as goal
-
-abbrev the_dictionary : ℕ → List (List ℤ) → DictionaryOf
-the_dictionary width tuples = record { width = width; tuples = tuples }
 
 pub returns : goal.returns
 returns g c =

@@ -1,16 +1,13 @@
 use Rattle.std.proofs.Common.{◌≡◌, ◌≤◌, ◌-◌, ◌*◌, ◌∙◌, ℕ, ℤ, List, length, map, drop, ap, arith}
 use Rattle.std.proofs.Math.Nat.{mul-le-mul_right}
 use Rattle.std.proofs.lemmas.List.{length-take-le, length-drop}
-use Rattle.cla_group.specs.Tuples.{tuples_of}
-use Rattle.cla_group.proofs.Tuples.{tuples_count}
-use Rattle.cla_group.proofs.Dictionaries.{tuples_are, slice_size, slice_tuples}
-use Rattle.cla_group.specs.Dictionaries.{DictionaryOf, AreValues}
+use Rattle.cla_layout.specs.Tuples.{tuples_of}
+use Rattle.cla_layout.proofs.Tuples.{tuples_count}
+use Rattle.cla_group.proofs.Dictionaries.{tuples_are, slice_size, slice_tuples, the_dictionary}
+use Rattle.cla_group.specs.Dictionaries.{AreValues}
 use Rattle.cla_group.proofs.dictionary.Dictionary.slice.Goals as goal
 use Rattle.cla_group.proofs.dictionary.Dictionary.slice.Goals.{In_ok-from_slice}
 use Rattle.cla_group.proofs.dictionary.Dictionary.slice.Given.{Over}
-
-abbrev the_dictionary : ℕ → List (List ℤ) → DictionaryOf
-the_dictionary width tuples = record { width = width; tuples = tuples }
 
 within : (g : Over) (c : In_ok-from_slice g) → c.args.b ≤ c.self.inside.tuples
 within g c =

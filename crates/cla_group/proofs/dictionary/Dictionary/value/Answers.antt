@@ -1,7 +1,7 @@
 use Rattle.std.proofs.Common.{◌<◌, length, map, arith}
-use Rattle.cla_group.specs.Tuples.{tuples_of}
-use Rattle.cla_group.proofs.Tuples.{tuples_count}
-use Rattle.cla_group.proofs.Coded.{value_read}
+use Rattle.cla_layout.specs.Tuples.{tuples_of}
+use Rattle.cla_layout.proofs.Tuples.{tuples_count}
+use Rattle.cla_layout.proofs.Coded.{value_read}
 use Rattle.cla_group.proofs.dictionary.Dictionary.value.Goals as goal
 
 pub returns : goal.returns

@@ -1,6 +1,6 @@
 use Rattle.std.proofs.Common.{◌≡◌, ◌*◌, length, map, arith}
-use Rattle.cla_group.specs.Tuples.{tuples_of}
-use Rattle.cla_group.proofs.Tuples.{tuples_count}
+use Rattle.cla_layout.specs.Tuples.{tuples_of}
+use Rattle.cla_layout.proofs.Tuples.{tuples_count}
 use Rattle.cla_group.proofs.Dictionaries.{tuples_are}
 use Rattle.cla_group.proofs.dictionary.Dictionary.with_values.Goals as goal
 

@@ -1,5 +1,5 @@
 use Rattle.std.proofs.Common.{◌≡◌, ◌<◌, ℕ}
-use Rattle.cla_group.specs.Groups.{code_of}
+use Rattle.cla_layout.specs.Groups.{code_of}
 use Rattle.cla_group.proofs.group.Group.read_codes.Given as goal
 
 -- the rows before i have their codes

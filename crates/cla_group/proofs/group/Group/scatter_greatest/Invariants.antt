@@ -1,6 +1,6 @@
 use Rattle.std.proofs.Common.{◌≡◌, ◌<◌, ◌≤◌, ℕ}
 use Rattle.std.specs.Int.{int_max}
-use Rattle.cla_group.specs.Groups.{at, code_of}
+use Rattle.cla_layout.specs.Groups.{at, code_of}
 use Rattle.cla_group.proofs.group.Group.scatter_greatest.Given as goal
 
 -- the rows before i are done, and the others are as they were

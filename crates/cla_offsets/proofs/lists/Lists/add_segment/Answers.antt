@@ -1,7 +1,8 @@
 use Rattle.std.proofs.Common.{rules, ◌≡◌, ◌+◌, ◌++◌, ◌∷◌, ◌∙◌, ℕ, List, [], length, ap, sym, arith}
 use Rattle.std.proofs.Common.{append_assoc, append-nil, length-append}
-use Rattle.cla_offsets.specs.Segments.{listed, lists_to, begins_to}
-use Rattle.cla_offsets.proofs.Chains.{lists_none, lists_more, begins_more}
+use Rattle.cla_offsets.specs.Segments.{listed}
+use Rattle.cla_rows.specs.Chains.{lists_to, begins_to}
+use Rattle.cla_rows.proofs.Chains.{lists_none, lists_more, begins_more}
 use Rattle.cla_offsets.proofs.ListedRows.{are_listed, listed_few}
 use Rattle.cla_offsets.proofs.lists.Lists.add_segment.Goals as goal
 

@@ -1,5 +1,6 @@
 use Rattle.std.proofs.Common.{◌≡◌, ◌++◌, ◌∷◌, [], length}
-use Rattle.cla_offsets.specs.Segments.{listed, lists_to, begins_to}
+use Rattle.cla_offsets.specs.Segments.{listed}
+use Rattle.cla_rows.specs.Chains.{lists_to, begins_to}
 use Rattle.cla_offsets.proofs.lists.Lists.add_segment.Given as goal
 
 -- the lists of the codes before code k are added

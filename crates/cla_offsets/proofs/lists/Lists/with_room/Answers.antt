@@ -1,5 +1,5 @@
 use Rattle.std.proofs.Common.{sym, ◌∙◌}
-use Rattle.cla_offsets.proofs.Chains.{lists_none}
+use Rattle.cla_rows.proofs.Chains.{lists_none}
 use Rattle.cla_offsets.proofs.lists.Lists.with_room.Goals as goal
 
 pub returns : goal.returns

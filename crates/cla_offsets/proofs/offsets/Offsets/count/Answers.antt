@@ -1,5 +1,5 @@
 use Rattle.std.proofs.Common.{ap, length, arith}
-use Rattle.cla_group.proofs.Listings.{rows_where_few}
+use Rattle.cla_layout.proofs.Listings.{rows_where_few}
 use Rattle.cla_offsets.proofs.SegmentRows.{segment_size}
 use Rattle.cla_offsets.proofs.offsets.Offsets.count.Goals as goal
 

@@ -1,6 +1,6 @@
 use Rattle.std.proofs.Common.{length, map}
 use Rattle.cla_group.proofs.GroupsMade.{group_valued}
-use Rattle.cla_group.proofs.Tuples.{tuples_count}
+use Rattle.cla_layout.proofs.Tuples.{tuples_count}
 use Rattle.cla_offsets.proofs.owned.OffsetsOwned.with_values.Goals as goal
 
 pub invariant_of-result-clause-is : goal.invariant_of-result-clause-is

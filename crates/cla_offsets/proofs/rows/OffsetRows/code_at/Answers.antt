@@ -1,8 +1,8 @@
-use Rattle.std.proofs.Common.{◌≡◌, ◌+◌, ◌-◌, ◌/◌, ◌%◌, ◌∙◌, Bool, ℕ, List, cond, eqb, refl, ap, sym, arith}
+use Rattle.std.proofs.Common.{true, false, ◌≡◌, ◌+◌, ◌-◌, ◌/◌, ◌%◌, ◌∙◌, Bool, ℕ, List, cond, eqb, refl, ap, sym, arith}
 use Rattle.std.specs.List.{list_any}
 use Rattle.cla_offsets.specs.Segments.{segment_rows, segment_of, list_of, code_by}
 use Rattle.cla_offsets.proofs.ListedRows.{are_listed}
-use Rattle.cla_offsets.proofs.ToldCodes.{code_by_none, code_by_more, row_told}
+use Rattle.cla_offsets.proofs.ToldCodes.{code_by_none, told_step, row_told}
 use Rattle.cla_offsets.proofs.rows.OffsetRows.code_at.Goals as goal
 
 pub loop-k-init : goal.loop-k-init
@@ -19,28 +19,15 @@ has_offset-requires c =
     record { rising = (are_listed segment v.rest (c.loop-k.k - 1) c.list.result.now c.list.ensures).rising }
 
 pub loop-k-preserved : goal.loop-k-preserved
-loop-k-preserved c =
-    let v = c.args.self.now in
-    let j = c.args.i % segment_rows in
-    let lists = list_of v (c.args.i / segment_rows) in
-    let k = c.loop-k.k - 1 in
-    let told = λ (n : ℕ). code_by v.rest lists n j in
-    let next : c.loop-k.k ≡ k + 1 = omega arith in
-    let lacks = ap (λ (xs : List ℕ). list_any (λ o. eqb o j) xs) (sym c.list.ensures) ∙ sym c.has_offset.ensures ∙ c.if-has_offset.false in
-    let step = code_by_more v.rest lists k j ∙ ap (λ (b : Bool). cond b k (told k)) lacks in
-    record { told = sym step ∙ ap told (sym next) ∙ c.loop-k.invariant.told }
+loop-k-preserved c = record {
+  told = told_step c.args.self.now.rest (list_of c.args.self.now (c.args.i / segment_rows)) (c.loop-k.k - 1) _ _ _ false (omega arith)
+      c.list.ensures (sym c.has_offset.ensures ∙ c.if-has_offset.false) ∙ c.loop-k.invariant.told;
+}
 
 pub returns-then-has_offset : goal.returns-then-has_offset
 returns-then-has_offset c =
-    let v = c.args.self.now in
-    let j = c.args.i % segment_rows in
-    let lists = list_of v (c.args.i / segment_rows) in
-    let k = c.loop-k.k - 1 in
-    let told = λ (n : ℕ). code_by v.rest lists n j in
-    let next : c.loop-k.k ≡ k + 1 = omega arith in
-    let has = ap (λ (xs : List ℕ). list_any (λ o. eqb o j) xs) (sym c.list.ensures) ∙ sym c.has_offset.ensures ∙ c.if-has_offset.true in
-    let step = code_by_more v.rest lists k j ∙ ap (λ (b : Bool). cond b k (told k)) has in
-    sym step ∙ ap told (sym next) ∙ c.loop-k.invariant.told
+    told_step c.args.self.now.rest (list_of c.args.self.now (c.args.i / segment_rows)) (c.loop-k.k - 1) _ _ _ true (omega arith)
+    c.list.ensures (sym c.has_offset.ensures ∙ c.if-has_offset.true) ∙ c.loop-k.invariant.told
 
 pub returns : goal.returns
 returns c =

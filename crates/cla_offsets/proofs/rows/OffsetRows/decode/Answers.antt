@@ -1,7 +1,7 @@
 use Rattle.std.proofs.Common.{◌≡◌, ◌<◌, ℕ, List, length, cond, eqb, ap, sym, ◌∙◌, refl, arith}
 use Rattle.std.specs.List.{list_any}
 use Rattle.std.proofs.lemmas.List.{ext_get_or}
-use Rattle.cla_group.specs.Groups.{code_of}
+use Rattle.cla_layout.specs.Groups.{code_of}
 use Rattle.cla_offsets.specs.Segments.{segment_of, list_of}
 use Rattle.cla_offsets.proofs.ListedRows.{are_listed}
 use Rattle.cla_offsets.proofs.SegmentRows.{segment_row}

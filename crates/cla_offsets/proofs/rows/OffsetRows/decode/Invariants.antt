@@ -1,5 +1,5 @@
 use Rattle.std.proofs.Common.{◌≡◌, ◌<◌, ℕ, length}
-use Rattle.cla_group.specs.Groups.{code_of}
+use Rattle.cla_layout.specs.Groups.{code_of}
 use Rattle.cla_offsets.specs.Segments.{list_of, code_by}
 use Rattle.cla_offsets.proofs.rows.OffsetRows.decode.Given as goal
 

@@ -4,6 +4,7 @@ use Rattle.cla_offsets.specs.Segments.{segment_rows, segments_of, AreLists}
 use Rattle.cla_offsets.proofs.SegmentRows.{segment_row, segment_size}
 use Rattle.cla_offsets.proofs.ListPlaces.{more_lists, lists_few}
 use Rattle.cla_offsets.proofs.ToldCodes.{lists_tell}
+use Rattle.cla_offsets.proofs.rows.OffsetRows.from_codes.Goals.{After-loop-s}
 use Rattle.cla_offsets.proofs.rows.OffsetRows.from_codes.Goals as goal
 
 abbrev rows_of_codes : ℕ → ℕ → List ℕ → OffsetsOf
@@ -31,13 +32,18 @@ loop-s-preserved c =
     let more = rw c.segment_in.ensures at c.in_ok-add_segment.ensures in
     record { lists = more_lists c.loop-s.s _ _ _ c.loop-s.invariant.lists more }
 
+-- all lists
+lists : (c : After-loop-s) → AreLists (segments_of (length c.args.codes.now)) (rows_of_codes c.args.tuples c.args.rest c.args.codes.now)
+    c.loop-s.lists
+lists c =
+    let all : c.loop-s.s ≡ segments_of (length c.args.codes.now) =
+    omega (arith, c.loop-s-test.false, c.loop-s.auto.s-end, c.segment_count-segments.ensures) in
+    subst (λ (n : ℕ). AreLists n (rows_of_codes c.args.tuples c.args.rest c.args.codes.now) c.loop-s.lists) all c.loop-s.invariant.lists
+
 pub invariant_of-result : goal.invariant_of-result
 invariant_of-result c =
-    let v = rows_of_codes c.args.tuples c.args.rest c.args.codes.now in
-    let all : c.loop-s.s ≡ segments_of (length v.codes) =
-    omega (arith, c.loop-s-test.false, c.loop-s.auto.s-end, c.segment_count-segments.ensures) in
-    let are = subst (λ (n : ℕ). AreLists n v c.loop-s.lists) all c.loop-s.invariant.lists in
-    rw (lists_tell v c.loop-s.lists c.requires.below are) (record {
+    let are = lists (goal.at.invariant_of-result c).After-loop-s in
+    rw (lists_tell (rows_of_codes c.args.tuples c.args.rest c.args.codes.now) c.loop-s.lists c.requires.below are) (record {
       count = refl;
       tuples_are = refl;
       rest_is = refl;
@@ -51,7 +57,5 @@ invariant_of-result c =
 pub returns : goal.returns
 returns c =
     let v = rows_of_codes c.args.tuples c.args.rest c.args.codes.now in
-    let all : c.loop-s.s ≡ segments_of (length v.codes) =
-    omega (arith, c.loop-s-test.false, c.loop-s.auto.s-end, c.segment_count-segments.ensures) in
-    let are = subst (λ (n : ℕ). AreLists n v c.loop-s.lists) all c.loop-s.invariant.lists in
-    ap (rows_of_codes c.args.tuples c.args.rest) (lists_tell v c.loop-s.lists c.requires.below are)
+    ap (rows_of_codes c.args.tuples c.args.rest)
+    (lists_tell v c.loop-s.lists c.requires.below (lists (goal.at.returns c).After-loop-s))

@@ -1,7 +1,8 @@
 use Rattle.std.proofs.Common.{◌≡◌, ◌+◌, ◌*◌, ◌∙◌, ℕ, length, map, ap, subst, sym, arith}
 use Rattle.std.specs.Prelude.{min}
 use Rattle.cla_offsets.specs.Segments.{segment_rows}
-use Rattle.cla_offsets.specs.Walks.{AreCodesFrom, AreGathered}
+use Rattle.cla_offsets.specs.Walks.{AreCodesFrom}
+use Rattle.cla_layout.specs.Groups.{AreGathered}
 use Rattle.cla_offsets.proofs.SegmentRows.{segment_row, segment_size, buffer_part, buffer_kept}
 use Rattle.cla_offsets.proofs.rows.OffsetRows.gather.Goals as goal
 

@@ -1,7 +1,7 @@
 use Rattle.std.proofs.Common.{◌≡◌, ◌*◌, length, map}
 use Rattle.std.specs.Prelude.{min}
 use Rattle.cla_offsets.specs.Segments.{segment_rows}
-use Rattle.cla_offsets.specs.Walks.{AreGathered}
+use Rattle.cla_layout.specs.Groups.{AreGathered}
 use Rattle.cla_offsets.proofs.rows.OffsetRows.gather.Given as goal
 
 -- the rows before segment s are gathered

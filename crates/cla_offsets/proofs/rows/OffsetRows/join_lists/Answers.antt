@@ -1,6 +1,6 @@
 use Rattle.std.proofs.Common.{◌≡◌, ◌<◌, ◌+◌, ◌*◌, ◌∙◌, ℕ, ℤ, pos, length, subst, arith}
 use Rattle.std.proofs.lemmas.List.{get_or_default}
-use Rattle.cla_group.specs.Groups.{at, code_of}
+use Rattle.cla_layout.specs.Groups.{at, code_of}
 use Rattle.cla_offsets.specs.Segments.{segment_rows, segment_of}
 use Rattle.cla_offsets.specs.Walks.{IsListJoined}
 use Rattle.cla_offsets.proofs.ListedRows.{are_listed}

@@ -1,7 +1,7 @@
 use Rattle.std.proofs.Common.{◌≡◌, ◌/◌, length, map, ap, rules}
 use Rattle.std.specs.List.{range_with_len}
 use Rattle.std.specs.Prelude.{vec_len}
-use Rattle.cla_group.proofs.Tuples.{tuples_count}
+use Rattle.cla_layout.proofs.Tuples.{tuples_count}
 use Rattle.cla_group.proofs.Dictionaries.{tuples_are}
 use Rattle.cla_plain.proofs.PlainGroups.{plain_group, rows_whole}
 use Rattle.cla_plain.proofs.plain.Plain.from_rows.Goals as goal

@@ -1,5 +1,5 @@
 use Rattle.std.proofs.Common.{length, sym}
-use Rattle.cla_group.proofs.Counting.{occurs_once}
+use Rattle.cla_layout.proofs.Counting.{occurs_once}
 use Rattle.cla_plain.proofs.plain.PlainGroup.occurrences.Goals as goal
 
 pub returns : goal.returns

@@ -1,5 +1,5 @@
 use Rattle.std.proofs.Common.{◌≤◌, length}
-use Rattle.cla_group.proofs.Counting.{rows_count}
+use Rattle.cla_layout.proofs.Counting.{rows_count}
 use Rattle.cla_plain.proofs.PlainGroups.{plain_group, rows_cut, rows_numbered}
 use Rattle.cla_plain.proofs.plain.PlainOwned.slice_rows.Goals as goal
 

@@ -1,5 +1,5 @@
 use Rattle.std.proofs.Common.{sym, ◌∙◌, arith}
-use Rattle.cla_runs.proofs.RunsOfCode.{listed_count, listed_begin}
+use Rattle.cla_rows.proofs.RunsOfCode.{listed_count, listed_begin}
 use Rattle.cla_runs.proofs.run_rows.RunRows.begin.Goals as goal
 
 pub begin-requires : goal.begin-requires

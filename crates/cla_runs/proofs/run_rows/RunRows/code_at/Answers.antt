@@ -1,5 +1,5 @@
 use Rattle.std.proofs.Common.{◌∙◌, length, sym, arith}
-use Rattle.cla_runs.proofs.RunBounds.{IsAtRun, at_run, code_in_run, code_in_gap}
+use Rattle.cla_rows.proofs.RunBounds.{IsAtRun, at_run, code_in_run, code_in_gap}
 use Rattle.cla_runs.proofs.run_rows.RunRows.code_at.Goals.{After-ended_by-n}
 use Rattle.cla_runs.proofs.run_rows.RunRows.code_at.Goals as goal
 

@@ -1,6 +1,6 @@
 use Rattle.std.proofs.Common.{◌≡◌, ◌<◌, ◌+◌, ◌*◌, ◌∙◌, ℕ, length, take, drop, max, min, sym, ap, arith}
 use Rattle.std.proofs.lemmas.List.{ext_get_or, length-take-le, length-drop, get_or-take, get_or-drop}
-use Rattle.cla_runs.proofs.RunBounds.{runs_few, at_run, stretch_is, stretch_there, edge_even}
+use Rattle.cla_rows.proofs.RunBounds.{runs_few, at_run, stretch_is, stretch_there, edge_even}
 use Rattle.cla_runs.proofs.WalkSteps.{coded_on}
 use Rattle.cla_runs.proofs.run_rows.RunRows.codes_into.Goals.{After-edge}
 use Rattle.cla_runs.proofs.run_rows.RunRows.codes_into.Goals as goal

@@ -1,5 +1,5 @@
 use Rattle.std.proofs.Common.{◌≤◌, ◌+◌, ◌-◌, ◌*◌, length}
-use Rattle.cla_runs.specs.RunBounds.{edge}
+use Rattle.cla_rows.specs.RunBounds.{edge}
 use Rattle.cla_runs.specs.Walks.{AreCodedTo}
 use Rattle.cla_runs.proofs.run_rows.RunRows.codes_into.Given as goal
 

@@ -1,6 +1,6 @@
 use Rattle.std.proofs.Common.{◌<◌, length, refl, arith}
-use Rattle.cla_group.specs.Groups.{code_of}
-use Rattle.cla_runs.proofs.RunsOfCode.{listed_count, listed_begin, key_is, maximal}
+use Rattle.cla_layout.specs.Groups.{code_of}
+use Rattle.cla_rows.proofs.RunsOfCode.{listed_count, listed_begin, key_is, maximal}
 use Rattle.cla_runs.proofs.run_rows.RunRows.end.Goals as goal
 
 pub end_before-requires : goal.end_before-requires

@@ -1,6 +1,6 @@
 use Rattle.std.proofs.Common.{◌≡◌, refl}
 use Rattle.cla_runs.specs.Rows.{rows_in_runs}
-use Rattle.cla_runs.proofs.RunBounds.{codes_are}
+use Rattle.cla_rows.proofs.RunBounds.{codes_are}
 use Rattle.cla_runs.proofs.run_rows.RunRows.from_codes.Goals as goal
 
 -- what is kept stands for the rows that were given

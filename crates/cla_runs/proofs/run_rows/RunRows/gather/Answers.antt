@@ -1,8 +1,8 @@
 use Rattle.std.proofs.Common.{◌≡◌, ◌<◌, ◌+◌, ◌*◌, length, map, pos, refl, ap, ◌∙◌, arith}
-use Rattle.cla_runs.specs.RunBounds.{IsStretch, edge}
+use Rattle.cla_rows.specs.RunBounds.{IsStretch, edge}
 use Rattle.cla_runs.specs.Walks.{AreGatheredTo}
-use Rattle.cla_group.specs.Groups.{gathered_to}
-use Rattle.cla_runs.proofs.RunBounds.{stretch_is, edge_last}
+use Rattle.cla_layout.specs.Groups.{gathered_to}
+use Rattle.cla_rows.proofs.RunBounds.{stretch_is, edge_last}
 use Rattle.cla_runs.proofs.run_rows.RunRows.gather.Given.{Over}
 use Rattle.cla_runs.proofs.run_rows.RunRows.gather.Goals.{After-edge-in-loop-s}
 use Rattle.cla_runs.proofs.run_rows.RunRows.gather.Goals as goal

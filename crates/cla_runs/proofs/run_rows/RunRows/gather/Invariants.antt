@@ -1,5 +1,5 @@
 use Rattle.std.proofs.Common.{map}
-use Rattle.cla_runs.specs.RunBounds.{edge}
+use Rattle.cla_rows.specs.RunBounds.{edge}
 use Rattle.cla_runs.specs.Walks.{AreGatheredTo}
 use Rattle.cla_runs.proofs.run_rows.RunRows.gather.Given as goal
 

@@ -1,7 +1,7 @@
 use Rattle.std.proofs.Common.{◌≡◌, ◌<◌, ◌+◌, ◌*◌, length, refl, ap, ◌∙◌, arith}
-use Rattle.cla_runs.specs.RunBounds.{IsStretch, edge}
+use Rattle.cla_rows.specs.RunBounds.{IsStretch, edge}
 use Rattle.cla_runs.specs.Walks.{AreJoinedTo}
-use Rattle.cla_runs.proofs.RunBounds.{stretch_is, edge_last}
+use Rattle.cla_rows.proofs.RunBounds.{stretch_is, edge_last}
 use Rattle.cla_runs.proofs.WalkSteps.{fits_on}
 use Rattle.cla_runs.proofs.run_rows.RunRows.join_each.Given.{Over}
 use Rattle.cla_runs.proofs.run_rows.RunRows.join_each.Goals.{After-edge-in-loop-s}

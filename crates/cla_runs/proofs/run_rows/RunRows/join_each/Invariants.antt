@@ -1,4 +1,4 @@
-use Rattle.cla_runs.specs.RunBounds.{edge}
+use Rattle.cla_rows.specs.RunBounds.{edge}
 use Rattle.cla_runs.specs.Walks.{AreJoinedTo}
 use Rattle.cla_runs.proofs.run_rows.RunRows.join_each.Given as goal
 

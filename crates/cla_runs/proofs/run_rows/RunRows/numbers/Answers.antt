@@ -1,7 +1,7 @@
 use Rattle.std.proofs.Common.{ap, arith}
 use Rattle.cla_runs.specs.Rows.{RowsOf}
-use Rattle.cla_runs.proofs.RunBounds.{runs_few, key_below}
-use Rattle.cla_runs.proofs.RunsOfCode.{listed_keys_are, runs_by_key}
+use Rattle.cla_rows.proofs.RunBounds.{runs_few, key_below}
+use Rattle.cla_rows.proofs.RunsOfCode.{listed_keys_are, runs_by_key}
 use Rattle.cla_runs.proofs.run_rows.RunRows.numbers.Goals as goal
 
 pub group_places-requires : goal.group_places-requires

@@ -1,6 +1,6 @@
 use Rattle.std.proofs.Common.{◌<◌, length, arith}
-use Rattle.cla_group.specs.Listed.{rows_of}
-use Rattle.cla_runs.proofs.RunsOfCode.{begins_count, previous_within, run_is}
+use Rattle.cla_layout.specs.Listed.{rows_of}
+use Rattle.cla_rows.proofs.RunsOfCode.{begins_count, previous_within, run_is}
 use Rattle.cla_runs.proofs.run_rows.RunRows.run.Goals.{After-begin-begin}
 use Rattle.cla_runs.proofs.run_rows.RunRows.run.Goals as goal
 

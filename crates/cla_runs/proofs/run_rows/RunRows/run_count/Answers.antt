@@ -1,6 +1,6 @@
 use Rattle.std.proofs.Common.{sym, ◌∙◌, arith}
-use Rattle.cla_runs.proofs.RunBounds.{runs_few}
-use Rattle.cla_runs.proofs.RunsOfCode.{begins_count}
+use Rattle.cla_rows.proofs.RunBounds.{runs_few}
+use Rattle.cla_rows.proofs.RunsOfCode.{begins_count}
 use Rattle.cla_runs.proofs.run_rows.RunRows.run_count.Goals as goal
 
 pub count_of-requires : goal.count_of-requires

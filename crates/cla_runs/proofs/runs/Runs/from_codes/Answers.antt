@@ -1,24 +1,7 @@
-use Rattle.std.proofs.Common.{◌≡◌, ◌/◌, length, arith, rules}
-use Rattle.std.specs.Prelude.{vec_len}
-use Rattle.cla_group.proofs.Coded.{tuples_few, codes_few}
-use Rattle.cla_group.proofs.Tuples.{group_with_values}
-use Rattle.cla_group.proofs.GroupsMade.{dictionary_values}
 use Rattle.cla_runs.proofs.runs.Runs.from_codes.Goals as goal
 
-pub overflow_cast-tuples-2 : goal.overflow_cast-tuples-2
-overflow_cast-tuples-2 g c =
-    let whole : vec_len c.args.values ≡ length c.args.values.items = search rules in
-    rw (c.len.ensures, whole) (omega (arith, tuples_few _ _ _ _ c.requires.codes, codes_few _ _ _ _ c.requires.codes))
-
-pub new-dictionary-requires : goal.new-dictionary-requires
-new-dictionary-requires g c =
-    let whole : vec_len c.args.values ≡ length c.args.values.items = search rules in
-    rw (c.len.ensures, whole) (dictionary_values _ _ _ _ c.requires.codes)
+pub of_values-dictionary-requires : goal.of_values-dictionary-requires
+of_values-dictionary-requires g c = (c.args.codes.now, c.requires.codes)
 
 pub of_rows-requires : goal.of_rows-requires
-of_rows-requires g c =
-    let whole : vec_len c.args.values ≡ length c.args.values.items = search rules in
-    let n = length c.args.values.items / c.args.width in
-    rw (c.new-dictionary.ensures, c.len.ensures, whole)
-    (group_with_values g.N.Number.BITS g.N.Number.value g.met.N.Number.in_range
-    c.args.width n c.args.codes.now c.args.values.items c.requires.codes)
+of_rows-requires g c = c.of_values-dictionary.ensures.group c.args.codes.now c.requires.codes

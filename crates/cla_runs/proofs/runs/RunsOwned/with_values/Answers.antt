@@ -1,5 +1,5 @@
 use Rattle.std.proofs.Common.{◌∙◌, length, map, sym}
-use Rattle.cla_group.proofs.Tuples.{tuples_count}
+use Rattle.cla_layout.proofs.Tuples.{tuples_count}
 use Rattle.cla_group.proofs.GroupsMade.{group_valued}
 use Rattle.cla_runs.proofs.runs.RunsOwned.with_values.Goals as goal
 

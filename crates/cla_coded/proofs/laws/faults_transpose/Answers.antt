@@ -1,5 +1,0 @@
-use Rattle.cla_coded.proofs.PartFirsts.{fault_transposed}
-use Rattle.cla_coded.proofs.laws.faults_transpose.Goals as goal
-
-pub returns : goal.returns
-returns c rows cols place fault first is = fault_transposed rows cols place fault first is

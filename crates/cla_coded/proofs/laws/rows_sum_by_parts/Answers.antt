@@ -1,5 +1,0 @@
-use Rattle.cla_coded.proofs.PartSums.{row_by_parts}
-use Rattle.cla_coded.proofs.laws.rows_sum_by_parts.Goals as goal
-
-pub returns : goal.returns
-returns c bits layout f i whole = row_by_parts bits layout f i whole

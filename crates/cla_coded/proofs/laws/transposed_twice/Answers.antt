@@ -1,5 +1,0 @@
-use Rattle.cla_coded.proofs.Matrices.{transposed_twice}
-use Rattle.cla_coded.proofs.laws.transposed_twice.Goals as goal
-
-pub returns : goal.returns
-returns c m shaped = transposed_twice m shaped

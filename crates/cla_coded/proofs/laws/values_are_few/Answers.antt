@@ -1,5 +1,0 @@
-use Rattle.cla_coded.proofs.PartValues.{values_few}
-use Rattle.cla_coded.proofs.laws.values_are_few.Goals as goal
-
-pub returns : goal.returns
-returns c bits layout q whole = values_few bits layout q whole

@@ -1,6 +1,0 @@
-use Rattle.std.proofs.Common.{length}
-use Rattle.cla_group.proofs.Regroup.{regroup_weighted}
-use Rattle.cla_group.proofs.laws.weighted_sums_regroup.Goals as goal
-
-pub returns : goal.returns
-returns c n codes weights f are = regroup_weighted f codes weights n (length codes) are.in_tuples

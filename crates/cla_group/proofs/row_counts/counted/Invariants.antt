@@ -1,8 +1,0 @@
-use Rattle.cla_group.proofs.Counts.{AreCountedFrom}
-use Rattle.cla_group.proofs.row_counts.counted.Given as goal
-
--- the rows from row i on are counted
-abbrev pub invariant-loop-i : goal.invariant-loop-i
-invariant-loop-i l = record {
-  counted : AreCountedFrom l.i l.codes l.tuples l.counts.items l.first_rows.items;
-}

@@ -1,0 +1,10 @@
+pub mod Groups
+pub mod Tuples
+pub mod Listed
+pub mod Kinds
+pub mod GroupLaws
+pub mod Layouts
+pub mod Firsts
+pub mod Values
+pub mod Laws
+pub mod Canonical
