@@ -1,0 +1,2 @@
+pub mod PartSums
+pub mod Extremes

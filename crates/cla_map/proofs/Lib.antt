@@ -1,0 +1,6 @@
+pub mod Chained
+pub mod Told
+pub mod Steps
+pub mod Shapes
+pub mod Results
+pub mod Ends
