@@ -1,1 +1,2 @@
 pub mod IntWords
+pub mod WordLaws

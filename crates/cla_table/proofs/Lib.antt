@@ -1,0 +1,4 @@
+pub mod KeptLaws
+pub mod PlaceLaws
+pub mod SumLaws
+pub mod TableLaws

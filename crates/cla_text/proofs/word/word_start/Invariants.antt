@@ -1,0 +1,8 @@
+use Rattle.std.proofs.Common.{◌≡◌, ◌+◌, drop}
+use Rattle.std.specs.List.{prefix_len}
+use Rattle.cla_text.specs.Words.{is_blank}
+use Rattle.cla_text.proofs.word.word_start.Given as goal
+
+-- what is left decides
+abbrev pub invariant-loop-i : goal.invariant-loop-i
+invariant-loop-i l = prefix_len is_blank (drop l.i l.line) + l.i ≡ prefix_len is_blank l.line
