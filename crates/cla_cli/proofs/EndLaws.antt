@@ -1,22 +1,25 @@
 -- How the endings of parts make the endings of a run.
-use Rattle.std.proofs.Common.{◌≡◌, ℕ, ℤ, List, [], ◌∷◌, length, Option, Some, None, Ok, Err, refl, sym, ap, subst, ◌∙◌, arith, inl, inr}
-use Rattle.std.specs.Option.{option_map}
+use Rattle.std.proofs.Common.{◌≡◌, ℕ, List, [], ◌∷◌, length, Option, Some, None, Ok, Err, refl, sym, ap, subst, ◌∙◌, arith, inl, inr}
 use Rattle.std.proofs.lemmas.List.{take_all}
 use Rattle.cla_spec.specs.Files.{Told}
-use Rattle.cla_spec.specs.Effects.{Effect, Out, World, IsFront, grown}
+use Rattle.cla_spec.specs.Effects.{Effect, Out, World, applied, applied_one, IsFront, IsFrontBefore, grown}
 use Rattle.cla_spec.specs.Matrix.{Matrix}
 use Rattle.cla_num.specs.Counts.{Counts}
 use Rattle.cla_io.specs.State.{State, Reading}
-use Rattle.cla_io.specs.declared.stop.Stop.TheVariants as stop
+use Rattle.cla_grammar.specs.Tree.{Statement}
 use Rattle.cla_cli.specs.declared.status.Status.{Status}
 use Rattle.cla_cli.specs.declared.status.Status.TheVariants as answer
 use Rattle.cla_cli.specs.declared.unfinished.Unfinished.{Unfinished}
 use Rattle.cla_cli.specs.declared.unfinished.Unfinished.TheVariants as unfinished
-use Rattle.cla_cli.specs.Texts.{memory_line, usage_line, number_line, unwritable_line}
+use Rattle.cla_cli.specs.declared.statements.Halted.{Halted}
+use Rattle.cla_cli.specs.declared.statements.Halted.TheVariants as halted
+use Rattle.cla_cli.specs.Texts.{memory_line, usage_line, unwritable_line}
 use Rattle.cla_cli.specs.Words.{RunScript, accepted_command}
-use Rattle.cla_cli.specs.Outcome.{Outcome, Trace, refused, usage_refusal, prints, factor_trace, run_outcome, outcome_of}
-use Rattle.cla_cli.specs.Run.{Ending, Settled, OutOfMemory, ReadFailed, WriteFailed, ending_of, IsRefusal, Written, FaultsCome, MayEnd, HasLine, HasFrontOfLine, Ends, EndsWhereTold, Completes, RiseByAtMost, CountsCome, CountsWhereTold, ReadsOnly, ReadsOnlyNeeded}
-use Rattle.cla_cli.specs.Parts.{Comes, ComesWhereTold, HasEnding, HasCounts, HasCountsWhereTold, IsNeeded, IsNeededWhereTold, ReadsAll, ReadsAllIn, ComesTo, Prints, TellsLine, Tells}
+use Rattle.cla_cli.specs.Statements.{trace_of, script_work}
+use Rattle.cla_cli.specs.Outcome.{Outcome, refused, usage_refusal, status_after, line_after, statements_outcome, script_outcome, outcome_of}
+use Rattle.cla_cli.specs.Run.{Ending, Settled, OutOfMemory, ReadFailed, WriteFailed, ending_of, IsRefusal, Written, FaultsCome, MayEnd, HasLine, HasFrontOfLine, Ends, EndsWhereTold, Completes, RiseBy, RiseByAtMost, CountsCome, CountsWhereTold, ReadsOnly, ReadsOnlyNeeded}
+use Rattle.cla_cli.specs.Runs.{world_of, Runs, HasHaltCause}
+use Rattle.cla_cli.specs.Parts.{Comes, ComesWhereTold, HasEnding, HasCounts, HasCountsWhereTold, IsNeeded, IsNeededWhereTold, Reaches, Lets, TellsHalt, TellsLine, Tells}
 
 -- nothing is a front of any effects
 front_nothing : (es : List Effect) (w : World) → IsFront es w w
@@ -32,51 +35,150 @@ settled answer.ReadFault h = absurd h
 settled answer.WriteFault h = absurd h
 settled s h = refl
 
+-- and all of them are one
+front_all : (es : List Effect) (w : World) → IsFront es w (applied es w)
+front_all [] w = refl
+front_all (e ∷ es) w = inr (inr (front_all es (applied_one e w)))
+
 whole_front : (line : List ℕ) (err err' : Written) → HasLine (Some line) err err' → HasFrontOfLine (Some line) err err'
 whole_front line err err' (inl h) = (length line, h ∙ ap (grown err.told) (sym (take_all (length line) line (omega arith))))
 whole_front line err err' (inr h) = h.1
 
 -- where a read or a refusal ends the script, nothing was put out
-read_ends_in : {N : Type 0} (value : N → ℤ) (bits : ℕ) (o : Outcome) (t : Told) (name : List ℕ) (old new : State) (out : Written)
-    (e : Unfinished)
-    → ReadsAllIn value bits o name (Err e) → HasEnding {U = Matrix × Option N} old new 0 0 (Err e)
-    → Comes {U = Unit {0}} o t t old new out out (Err e)
-read_ends_in value bits o t name old new out (unfinished.Refused status line) h ending = (h.0, ((ending.1.0, refl), (rw h.1 refl, sym h.2)))
-read_ends_in value bits o t name old new out (unfinished.Unread line) h ending = ((ending.0.0, refl), (refl, (h.0, h.1, ap Some h.2)))
-read_ends_in value bits o t name old new out unfinished.OutputUnwritten h ending = absurd h
-read_ends_in value bits o t name old new out unfinished.Memory h ending =
+read_ends_in : {T : Type 0} (next : T → Outcome) (o : Outcome) (t : Told) (old new : State) (out : Written) (e : Unfinished)
+    → Lets next o (Err e) → HasEnding {U = T} old new 0 0 (Err e) → Comes {U = Unit {0}} o t t old new out out (Err e)
+read_ends_in next o t old new out (unfinished.Refused status line) h ending = (h.0, ((ending.1.0, refl), (rw h.1 refl, sym h.2)))
+read_ends_in next o t old new out (unfinished.Unread line) h ending = ((ending.0.0, refl), (refl, (h.0, h.1, ap Some h.2)))
+read_ends_in next o t old new out unfinished.OutputUnwritten h ending = absurd h
+read_ends_in next o t old new out unfinished.Memory h ending =
     (tt, (front_nothing o.effects (record { told = t; out = out.told }), refl))
 
-pub read_ends : {N : Type 0} (value : N → ℤ) (bits : ℕ) (told told' : Option Told) (name : List ℕ) (old new : State) (out : Written)
-    (e : Unfinished)
-    → told' ≡ told → ReadsAll value bits told name (Err e) → HasEnding {U = Matrix × Option N} old new 0 0 (Err e)
+pub read_ends : {T : Type 0} (next : T → Outcome) (bits : ℕ) (told told' : Option Told) (name : List ℕ) (old new : State)
+    (out : Written) (e : Unfinished)
+    → told' ≡ told → ((t : Told) → told ≡ Some t → Lets next (script_outcome bits t name) (Err e))
+    → HasEnding {U = T} old new 0 0 (Err e)
     → ComesWhereTold {U = Unit {0}} bits name told told' old new out out (Err e)
-read_ends value bits None told' name old new out e same h ending = same
-read_ends value bits (Some t) told' name old new out e same h ending =
+read_ends next bits None told' name old new out e same h ending = same
+read_ends next bits (Some t) told' name old new out e same h ending =
     subst (λ (t' : Option Told). ComesWhereTold {U = Unit {0}} bits name (Some t) t' old new out out (Err e)) (sym same)
-    (read_ends_in value bits (run_outcome bits t name) t name old new out e h ending)
+    (read_ends_in next (script_outcome bits t name) t old new out e (h t refl) ending)
 
--- a number whose line can't be written
-pub unwritten_ends : {N : Type 0} (value : N → ℤ) (bits : ℕ) (told told' : Option Told) (name : List ℕ) (old new : State)
-    (out out' : Written) (m : Matrix) (k : Option N) (n : N)
-    → told' ≡ told → ReadsAll value bits told name (Ok (m, k)) → new.read_faults ≡ old.read_faults
-    → ComesTo value (factor_trace bits (option_map value k) m) (Ok n) → Prints {U = Unit {0}} (value n) out out' (Err stop.Failed)
-    → ComesWhereTold {U = Unit {0}} bits name told told' old new out out' (Err unfinished.OutputUnwritten)
-unwritten_ends value bits None told' name old new out out' m k n same h reads sum prints = same
-unwritten_ends value bits (Some t) told' name old new out out' m k n same h reads sum prints =
-    let o = run_outcome bits t name in
-    let effects : o.effects ≡ Out (number_line (value n)) ∷ [] = ap (λ (x : Outcome). x.effects) h.1 ∙ ap (λ (x : Trace). x.effects) sum in
-    subst (λ (t' : Option Told). ComesWhereTold {U = Unit {0}} bits name (Some t) t' old new out out' (Err unfinished.OutputUnwritten))
-    (sym same) (
-      (reads, prints.0),
+-- where it was read, its statements decide
+pub statements_done : (bits : ℕ) (told told' : Option Told) (name : List ℕ) (xs : List Statement) (ms : List Matrix) (old new : State)
+    (out out' : Written)
+    → told' ≡ told → ((t : Told) → told ≡ Some t → Reaches (script_outcome bits t name) (statements_outcome bits xs ms))
+    → new.read_faults ≡ old.read_faults
+    → ((t : Told) → Runs {U = Unit {0}} t (trace_of bits [] xs ms) out.told out'.told (Ok tt))
+    → HasHaltCause {U = Unit {0}} out.faults out'.faults (Ok tt)
+    → ComesWhereTold {U = Unit {0}} bits name told told' old new out out' (Ok tt)
+statements_done bits None told' name xs ms old new out out' same reaches reads runs cause = same
+statements_done bits (Some t) told' name xs ms old new out out' same reaches reads runs cause =
+    let r = reaches t refl in
+    let none : (trace_of bits [] xs ms).fault ≡ None = (runs t).0 in
+    subst (λ (t' : Option Told). ComesWhereTold {U = Unit {0}} bits name (Some t) t' old new out out' (Ok tt)) (sym same) (
+      r.status ∙ ap status_after none,
       (
-        Out (number_line (value n)),
-        rw effects
-            (inl (refl, inr (prints.1.0, ap (λ (x : Option (List ℕ)). record { told = t; out = x }) prints.1.1))),
-        prints.0,
-        refl,
+        (reads, cause),
+        (
+          (runs t).1 ∙ sym (ap (λ (es : List Effect). applied es (world_of t out.told)) r.effects),
+          sym (r.line ∙ ap line_after none),
+        ),
       ),
     )
+
+halts_in : (bits : ℕ) (t : Told) (o : Outcome) (xs : List Statement) (ms : List Matrix) (old new : State) (out out' : Written)
+    (h : Halted) (e : Unfinished)
+    → Reaches o (statements_outcome bits xs ms) → new.read_faults ≡ old.read_faults
+    → Runs {U = Unit {0}} t (trace_of bits [] xs ms) out.told out'.told (Err h)
+    → HasHaltCause {U = Unit {0}} out.faults out'.faults (Err h) → TellsHalt h e
+    → Comes {U = Unit {0}} o t t old new out out' (Err e)
+halts_in bits t o xs ms old new out out' (halted.Operator place fault) (unfinished.Refused status line) r reads runs cause tells = (
+  r.status ∙ ap status_after runs.0 ∙ sym tells.0,
+  (
+    (reads, cause),
+    (
+      runs.1 ∙ sym (ap (λ (es : List Effect). applied es (world_of t out.told)) r.effects),
+      tells.1 ∙ sym (r.line ∙ ap line_after runs.0),
+    ),
+  ),
+)
+halts_in bits t o xs ms old new out out' (halted.Operator place fault) unfinished.Memory r reads runs cause tells = (
+  tt,
+  (
+    subst (λ (es : List Effect). IsFront es (world_of t out.told) (world_of t out'.told)) (sym r.effects)
+        (subst (λ (v : World). IsFront (trace_of bits [] xs ms).effects (world_of t out.told) v) (sym runs.1)
+        (front_all (trace_of bits [] xs ms).effects (world_of t out.told))),
+    refl,
+  ),
+)
+halts_in bits t o xs ms old new out out' halted.Unwritten unfinished.OutputUnwritten r reads runs cause tells = (
+  (reads, cause),
+  (
+    Out runs.0,
+    subst (λ (es : List Effect). IsFrontBefore es (Out runs.0) (world_of t out.told) (world_of t out'.told)) (sym r.effects) runs.1,
+    cause,
+    refl,
+  ),
+)
+halts_in bits t o xs ms old new out out' halted.Memory unfinished.Memory r reads runs cause tells =
+    (tt, (subst (λ (es : List Effect). IsFront es (world_of t out.told) (world_of t out'.told)) (sym r.effects) runs, refl))
+halts_in bits t o xs ms old new out out' h e r reads runs cause tells = absurd tells
+
+pub statements_halt : (bits : ℕ) (told told' : Option Told) (name : List ℕ) (xs : List Statement) (ms : List Matrix) (old new : State)
+    (out out' : Written) (h : Halted) (e : Unfinished)
+    → told' ≡ told → ((t : Told) → told ≡ Some t → Reaches (script_outcome bits t name) (statements_outcome bits xs ms))
+    → new.read_faults ≡ old.read_faults
+    → ((t : Told) → Runs {U = Unit {0}} t (trace_of bits [] xs ms) out.told out'.told (Err h))
+    → HasHaltCause {U = Unit {0}} out.faults out'.faults (Err h) → TellsHalt h e
+    → ComesWhereTold {U = Unit {0}} bits name told told' old new out out' (Err e)
+statements_halt bits None told' name xs ms old new out out' h e same reaches reads runs cause tells = same
+statements_halt bits (Some t) told' name xs ms old new out out' h e same reaches reads runs cause tells =
+    subst (λ (t' : Option Told). ComesWhereTold {U = Unit {0}} bits name (Some t) t' old new out out' (Err e)) (sym same)
+    (halts_in bits t (script_outcome bits t name) xs ms old new out out' h e (reaches t refl) reads (runs t) cause tells)
+
+-- and which counts tell of it
+pub halt_ending : (old new : State) (f f' : ℕ) (h : Halted) (e : Unfinished)
+    → new.read_faults ≡ old.read_faults → new.misses ≡ old.misses → HasHaltCause {U = Unit {0}} f f' (Err h) → TellsHalt h e
+    → HasEnding {U = Unit {0}} old new f f' (Err e)
+halt_ending old new f f' (halted.Operator place fault) (unfinished.Refused status line) reads misses cause tells =
+    rw tells.0 (tt, (reads, cause), misses)
+halt_ending old new f f' halted.Unwritten unfinished.OutputUnwritten reads misses cause tells = ((reads, cause), misses)
+halt_ending old new f f' h unfinished.Memory reads misses cause tells = tt
+halt_ending old new f f' h e reads misses cause tells = absurd tells
+
+-- and the operations that were counted
+pub done_counted : (bits : ℕ) (told : Option Told) (name : List ℕ) (xs : List Statement) (ms : List Matrix) (before now : Counts)
+    → ((t : Told) → told ≡ Some t → Reaches (script_outcome bits t name) (statements_outcome bits xs ms))
+    → RiseBy (script_work [] xs ms) before now
+    → HasCountsWhereTold {U = Unit {0}} bits name told before now (Ok tt)
+done_counted bits None name xs ms before now reaches rise = record { mults = omega (arith, rise.0); maps = omega (arith, rise.1) }
+done_counted bits (Some t) name xs ms before now reaches rise =
+    subst (λ (work : Counts). RiseBy work before now) (sym (reaches t refl).counts) rise
+
+halt_counted_in : (work before now : Counts) (h : Halted) (e : Unfinished) → TellsHalt h e → RiseByAtMost work before now
+    → HasCounts {U = Unit {0}} work before now (Err e)
+halt_counted_in work before now (halted.Operator place fault) (unfinished.Unread line) tells rise = absurd tells
+halt_counted_in work before now halted.Unwritten (unfinished.Unread line) tells rise = absurd tells
+halt_counted_in work before now halted.Memory (unfinished.Unread line) tells rise = absurd tells
+halt_counted_in work before now h (unfinished.Refused status line) tells rise = rise
+halt_counted_in work before now h unfinished.OutputUnwritten tells rise = rise
+halt_counted_in work before now h unfinished.Memory tells rise = rise
+
+pub halt_counted : (bits : ℕ) (told : Option Told) (name : List ℕ) (xs : List Statement) (ms : List Matrix) (before now : Counts)
+    (h : Halted) (e : Unfinished)
+    → ((t : Told) → told ≡ Some t → Reaches (script_outcome bits t name) (statements_outcome bits xs ms)) → TellsHalt h e
+    → RiseByAtMost (script_work [] xs ms) before now
+    → HasCountsWhereTold {U = Unit {0}} bits name told before now (Err e)
+halt_counted bits None name xs ms before now h e reaches tells rise = rise.not_below
+halt_counted bits (Some t) name xs ms before now h e reaches tells rise =
+    halt_counted_in (script_outcome bits t name).counts before now h e tells
+    (subst (λ (work : Counts). RiseByAtMost work before now) (sym (reaches t refl).counts) rise)
+
+-- the file that is being read is one that is needed
+pub needed_where_told : (bits : ℕ) (told : Option Told) (name : List ℕ) (reading : Option Reading)
+    → ((t : Told) → told ≡ Some t → IsNeeded (script_outcome bits t name).needed reading) → IsNeededWhereTold bits name told reading
+needed_where_told bits None name reading h = tt
+needed_where_told bits (Some t) name reading h = h t refl
 
 none_counted : (counts before : Counts) → RiseByAtMost counts before before
 none_counted counts before = record
@@ -92,7 +194,7 @@ no_counts_in counts before unfinished.Memory = none_counted counts before
 pub no_counts : (bits : ℕ) (name : List ℕ) (told : Option Told) (before : Counts) (e : Unfinished)
     → HasCountsWhereTold {U = Unit {0}} bits name told before before (Err e)
 no_counts bits name None before e = record { mults = omega arith; maps = omega arith }
-no_counts bits name (Some t) before e = no_counts_in (run_outcome bits t name).counts before e
+no_counts bits name (Some t) before e = no_counts_in (script_outcome bits t name).counts before e
 
 -- a line that was told ends the run as its status says, or for want of memory
 line_ends : (o : Outcome) (told told' : Told) (old new : State) (out out' err err' : Written) (ending : Ending) (line : List ℕ)
@@ -130,7 +232,7 @@ tells_end o told told' old new out out' err err' unfinished.Memory result comes 
     (λ has. (OutOfMemory, (Some memory_line, comes, whole_front memory_line err err' has))) tells
 
 accepted_outcome : (bits : ℕ) (words : List (List ℕ)) (t : Told) (name : List ℕ) → accepted_command bits words ≡ Some (RunScript name)
-    → run_outcome bits t name ≡ outcome_of bits words t
+    → script_outcome bits t name ≡ outcome_of bits words t
 accepted_outcome bits words t name accepted = rw accepted refl
 
 pub unfinished_ends : (bits : ℕ) (words : List (List ℕ)) (name : List ℕ) (told told' : Option Told) (old new : State)
@@ -142,7 +244,7 @@ unfinished_ends bits words name None told' old new out out' err err' e result ac
 unfinished_ends bits words name (Some t) None old new out out' err err' e result accepted comes ending tells = absurd comes
 unfinished_ends bits words name (Some t) (Some t') old new out out' err err' e result accepted comes ending tells =
     subst (λ (o : Outcome). Ends o t t' old new out out' err err' result (ending_of result)) (accepted_outcome bits words t name accepted)
-    (tells_end (run_outcome bits t name) t t' old new out out' err err' e result comes ending tells)
+    (tells_end (script_outcome bits t name) t t' old new out out' err err' e result comes ending tells)
 
 pub done_ends : (bits : ℕ) (words : List (List ℕ)) (name : List ℕ) (told told' : Option Told) (old new : State) (out out' err : Written)
     → accepted_command bits words ≡ Some (RunScript name) → ComesWhereTold {U = Unit {0}} bits name told told' old new out out' (Ok tt)
@@ -224,7 +326,7 @@ pub unfinished_counts : (bits : ℕ) (words : List (List ℕ)) (name : List ℕ)
 unfinished_counts bits words name None before now old new f f' err err' e result accepted h ending tells = h
 unfinished_counts bits words name (Some t) before now old new f f' err err' e result accepted h ending tells =
     subst (λ (o : Outcome). CountsCome o.counts before now result) (accepted_outcome bits words t name accepted)
-    (unfinished_counts_in (run_outcome bits t name).counts before now old new f f' err err' e result h ending tells)
+    (unfinished_counts_in (script_outcome bits t name).counts before now old new f f' err err' e result h ending tells)
 
 pub unfinished_faults : (old new : State) (f f' : ℕ) (err err' : Written) (e : Unfinished) (result : Status)
     → HasEnding {U = Unit {0}} old new f f' (Err e) → Tells e err err' result → FaultsCome old new f f' (ending_of result)
@@ -269,7 +371,7 @@ pub reads_only_needed : (bits : ℕ) (words : List (List ℕ)) (name : List ℕ)
     → ReadsOnlyNeeded bits words told old reading
 reads_only_needed bits words name None old reading accepted h = tt
 reads_only_needed bits words name (Some t) old reading accepted h = subst (λ (o : Outcome). ReadsOnly o.needed old reading)
-    (accepted_outcome bits words t name accepted) (only_needed (run_outcome bits t name).needed old reading h)
+    (accepted_outcome bits words t name accepted) (only_needed (script_outcome bits t name).needed old reading h)
 
 pub not_both : (bits : ℕ) (words : List (List ℕ)) (name : List ℕ) → accepted_command bits words ≡ Some (RunScript name)
     → accepted_command bits words ≡ None → ⊥

@@ -5,7 +5,8 @@ use Rattle.cla_spec.specs.Matrix.{Matrix}
 use Rattle.cla_grammar.specs.declared.words.Call.TheVariants as call
 use Rattle.cla_grammar.specs.Tree.{Named, Apply}
 use Rattle.cla_cli.specs.Outcome.{place_at}
-use Rattle.cla_cli.specs.WholeScript.{Scalar, Table, printed, value_of}
+use Rattle.cla_print.specs.Texts.{Scalar, Table, printed}
+use Rattle.cla_cli.specs.Statements.{value_of}
 
 abbrev square : Matrix
 square = record { rows = 2; cols = 2; cells = pos 1 ∷ negsuc 1 ∷ pos 3 ∷ pos 4 ∷ [] }

@@ -8,11 +8,11 @@ use Rattle.cla_num.specs.declared.fault.What.TheVariants.{Range}
 use Rattle.cla_num.specs.Fault.{fault_at, fault_of, exactly}
 use Rattle.cla_num.specs.Places.{IsFirstPlace}
 use Rattle.cla_num.proofs.Faults.{fault_of-none, fault_of-first}
-use Rattle.cla_group.specs.Groups.{code_of, value_of, cell_of, first_row_of, IsGroup}
-use Rattle.cla_group.specs.Tuples.{tuples_of}
-use Rattle.cla_group.proofs.Tuples.{place_within, item_holds, tuple_value, tuples_count}
-use Rattle.cla_group.proofs.Cells.{values_few}
-use Rattle.cla_group.proofs.Regroup.{codes_of_group, first_row_there, code_of_first_row, first_places_regroup, faults_regroup}
+use Rattle.cla_layout.specs.Groups.{code_of, value_of, cell_of, first_row_of, IsGroup}
+use Rattle.cla_layout.specs.Tuples.{tuples_of}
+use Rattle.cla_layout.proofs.Tuples.{place_within, item_holds, tuple_value, tuples_count}
+use Rattle.cla_layout.proofs.Cells.{values_few}
+use Rattle.cla_layout.proofs.Regroup.{codes_of_group, first_row_there, code_of_first_row, first_places_regroup, faults_regroup}
 use Rattle.cla_cli.specs.declared.misfit.Misfit.{Misfit}
 use Rattle.cla_cli.specs.First.{IsScaled, first_place, product_at}
 use Rattle.cla_cli.specs.Products.{Holds}

@@ -1,9 +1,12 @@
 pub mod Examples
-pub mod FactorLaws
-pub mod ScriptLaws
 pub mod NeededLaws
 pub mod ReadLaws
 pub mod EndLaws
 pub mod ProductLaws
 pub mod FirstLaws
 pub mod TableLaws
+pub mod RunLaws
+pub mod EvaluateLaws
+pub mod ScriptLaws
+pub mod EndingLaws
+pub mod InputsLaws

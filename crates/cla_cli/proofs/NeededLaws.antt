@@ -12,8 +12,7 @@ use Rattle.cla_mtx.specs.declared.fault.MtxFault.{MtxFault}
 use Rattle.cla_mtx.specs.declared.fault.MtxFault.TheVariants.{Banner}
 use Rattle.cla_mtx.specs.Table.{ReadsArrayFile}
 use Rattle.cla_cli.specs.declared.unread.Unread.TheVariants.{Refused}
-use Rattle.cla_cli.specs.declared.unread.ScriptFault.{ScriptFault}
-use Rattle.cla_cli.specs.declared.unread.ScriptFault.TheVariants.{TooLong}
+use Rattle.cla_cli.specs.declared.unread.TooLong.{TooLong}
 use Rattle.cla_cli.specs.Outcome.{script_limit, table_limit}
 use Rattle.cla_cli.specs.Needed.{Opens, IsText, ReadsText, ReadsTable}
 
@@ -38,7 +37,7 @@ is_text text q bytes (Some after) short h = (h.0, rw h.0 at short)
 
 -- a script's text that was read
 pub text_read : (told told' : Option Told) (reading : Option Reading) (name : List ℕ) (bytes : Vec ℕ Global) (p q : Progress)
-    (o2 : Option (List ℕ)) → told' ≡ told → Opens {R = ScriptFault} told name reading (Ok tt) → p ≡ fresh script_limit
+    (o2 : Option (List ℕ)) → told' ≡ told → Opens {R = TooLong} told name reading (Ok tt) → p ≡ fresh script_limit
     → length bytes.items ≤ script_limit → TakesWholeWhereTold p q (ahead_of p (left_where_told told' reading)) o2 (Ok bytes)
     → ReadsText told name (Ok bytes)
 text_read None told' reading name bytes p q o2 same opens start short takes = tt
@@ -53,11 +52,12 @@ is_too_long text q (Some after) same h = rw same at h
 
 -- one that is too long
 pub text_too_long : (told told' : Option Told) (reading : Option Reading) (name : List ℕ) (p q : Progress) (o2 : Option (List ℕ))
-    → told' ≡ told → Opens {R = ScriptFault} told name reading (Ok tt) → p ≡ fresh script_limit
+    (fault : TooLong)
+    → told' ≡ told → Opens {R = TooLong} told name reading (Ok tt) → p ≡ fresh script_limit
     → q.limit ≡ p.limit → TakesWholeWhereTold p q (ahead_of p (left_where_told told' reading)) o2 (Err input.TooLong)
-    → ReadsText told name (Err (Refused TooLong))
-text_too_long None told' reading name p q o2 same opens start limit takes = tt
-text_too_long (Some t) told' reading name p q o2 same opens start limit takes =
+    → ReadsText told name (Err (Refused fault))
+text_too_long None told' reading name p q o2 fault same opens start limit takes = tt
+text_too_long (Some t) told' reading name p q o2 fault same opens start limit takes =
     let ahead = fresh_ahead t told' reading name opens.1.0 script_limit same opens.0 opens.1.1 in
     let size : q.limit ≡ script_limit = limit ∙ ap (λ (x : Progress). x.limit) start in
     (opens.1.0, opens.1.1, is_too_long opens.1.0 q o2 size (rw (start, ahead) at takes))

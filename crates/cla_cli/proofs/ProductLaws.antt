@@ -3,8 +3,8 @@ use Rattle.std.proofs.Common.{◌≡◌, ◌⊎◌, ℕ, ℤ, pos, ◌+◌, ◌<
 use Rattle.std.proofs.lemmas.Bool.{cases_eq}
 use Rattle.std.proofs.lemmas.List.{get_or-set_same, get_or-set_other}
 use Rattle.cla_spec.specs.Numbers.{InRange}
-use Rattle.cla_group.specs.Groups.{at}
-use Rattle.cla_group.proofs.Tuples.{item_holds}
+use Rattle.cla_layout.specs.Groups.{at}
+use Rattle.cla_layout.proofs.Tuples.{item_holds}
 use Rattle.cla_cli.specs.declared.misfit.Misfit.{Misfit}
 use Rattle.cla_cli.specs.Products.{Holds, IsEarlier}
 

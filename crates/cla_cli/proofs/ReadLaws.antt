@@ -1,5 +1,6 @@
 -- What the reads of a command say of its outcome.
-use Rattle.std.proofs.Common.{◌≡◌, ℕ, ℤ, ◌<◌, ◌≤◌, List, [], ◌∷◌, length, nat_le, false, Option, Some, None, Result, Ok, Err, refl, sym, ap, subst, ◌∙◌, arith}
+use Rattle.std.proofs.Common.{◌≡◌, ℕ, ◌<◌, ◌≤◌, suc, List, [], ◌∷◌, length, nat_le, false, Option, Some, None, Result, Ok, Err, refl, sym, ap, subst, ◌∙◌, arith, inl, inr, ◌++◌}
+use Rattle.std.proofs.lemmas.List.{append_assoc, append-nil}
 use Rattle.std.specs.Prelude.{Contains}
 use Rattle.std.specs.FinMap as fin
 use Rattle.std.proofs.lemmas.Bool.{le-leb}
@@ -7,21 +8,90 @@ use Rattle.std.proofs.lemmas.Bool.Decides.{nat_tests}
 use Rattle.cla_spec.specs.Files.{Told}
 use Rattle.cla_spec.specs.Matrix.{Matrix}
 use Rattle.cla_spec.specs.ArrayFile.{array_in}
-use Rattle.cla_spec.specs.SumScript.{SumScript, sum_script_in}
 use Rattle.cla_io.specs.State.{Reading}
 use Rattle.cla_mtx.specs.declared.fault.MtxFault.{MtxFault}
+use Rattle.cla_grammar.specs.Tree.{Statement}
 use Rattle.cla_cli.specs.declared.status.Status.{Status}
 use Rattle.cla_cli.specs.declared.status.Status.TheVariants as answer
 use Rattle.cla_cli.specs.declared.status.FileFault.TheVariants as file
 use Rattle.cla_cli.specs.declared.unread.Unread.{Unread}
 use Rattle.cla_cli.specs.declared.unread.Unread.TheVariants as unread
-use Rattle.cla_cli.specs.declared.unread.ScriptFault.{ScriptFault}
-use Rattle.cla_cli.specs.declared.unread.ScriptFault.TheVariants.{TooLong, Form}
+use Rattle.cla_cli.specs.declared.unread.TooLong.{TooLong}
 use Rattle.cla_cli.specs.declared.unfinished.Unfinished.{Unfinished}
 use Rattle.cla_cli.specs.declared.unfinished.Unfinished.TheVariants as unfinished
-use Rattle.cla_cli.specs.Outcome.{Outcome, Refusal, refused, needing, missing_refusal, limit_refusal, script_refusal, table_refusal, script_limit, table_limit, unless_missing, unless_refused, checked_table, tables_outcome, run_outcome}
-use Rattle.cla_cli.specs.Needed.{ReadsNoOther, ReadsScript, ReadsTable}
-use Rattle.cla_cli.specs.Parts.{TellsUnread, refusal_of_script, refusal_of_table, IsNeeded, IsNeededWhereTold, ReadsAll}
+use Rattle.cla_cli.specs.Outcome.{Outcome, Refusal, refused, needing, missing_refusal, limit_refusal, table_refusal, script_limit, table_limit, unless_refused, checked_script, with_table, with_tables, reads_outcome, script_outcome}
+use Rattle.cla_cli.specs.Needed.{ReadsNoOther, ReadsText, ReadsTable}
+use Rattle.cla_cli.specs.Run.{ReadsOnly}
+use Rattle.cla_cli.specs.Parts.{TellsUnread, refusal_of_text, refusal_of_table, IsNeeded, Reaches, Lets, Passes}
+
+-- checks that pass lead from one outcome to the next
+pub reaches_itself : (o : Outcome) → Reaches o o
+reaches_itself o = record { status = refl; effects = refl; counts = refl; line = refl; needed = λ name has. has }
+
+pub reaches_on : (a b c : Outcome) → Reaches a b → Reaches b c → Reaches a c
+reaches_on a b c first then = record {
+  status = first.status ∙ then.status;
+  effects = first.effects ∙ then.effects;
+  counts = first.counts ∙ then.counts;
+  line = first.line ∙ then.line;
+  needed = λ name has. first.needed name (then.needed name has);
+}
+
+needed_first : (name : List ℕ) (names : List (List ℕ)) → Contains (name ∷ names) name
+needed_first name names = (0, omega arith, refl)
+
+needed_later : (name first : List ℕ) (names : List (List ℕ)) → Contains names name → Contains (first ∷ names) name
+needed_later name first names has = (suc has.0, omega (arith, has.1), has.2)
+
+pub needing_reaches : (name : List ℕ) (o : Outcome) → Reaches (needing name o) o
+needing_reaches name o = record
+    { status = refl; effects = refl; counts = refl; line = refl; needed = λ other has. needed_later other name o.needed has }
+
+pub lets_reached : {T : Type 0} (next : T → Outcome) (o p : Outcome) (r : Result T Unfinished) → Reaches o p → Lets next p r
+    → Lets next o r
+lets_reached next o p (Ok x) on h = reaches_on o p (next x) on h
+lets_reached next o p (Err (unfinished.Refused status line)) on h = (on.status ∙ h.0, on.effects ∙ h.1, on.line ∙ h.2)
+lets_reached next o p (Err (unfinished.Unread line)) on h = (h.0, on.needed h.0 h.1, h.2)
+lets_reached next o p (Err unfinished.OutputUnwritten) on h = absurd h
+lets_reached next o p (Err unfinished.Memory) on h = tt
+
+-- an error lets nothing follow
+pub lets_error : {T U : Type 0} (next : T → Outcome) (then : U → Outcome) (o : Outcome) (e : Unfinished) → Lets next o (Err e)
+    → Lets then o (Err e)
+lets_error next then o (unfinished.Refused status line) h = h
+lets_error next then o (unfinished.Unread line) h = h
+lets_error next then o unfinished.OutputUnwritten h = absurd h
+lets_error next then o unfinished.Memory h = tt
+
+-- a check of a script decides as its outcome says
+pub passes_lets : {T X : Type 0} (view : T → X) (next : X → Outcome) (checked : Result X Refusal) (r : Result T Unfinished)
+    → Passes view checked r → Lets (λ x. next (view x)) (unless_refused checked next) r
+passes_lets view next checked (Ok x) h = subst (λ c. Reaches (unless_refused c next) (next (view x))) (sym h)
+    (reaches_itself (next (view x)))
+passes_lets view next checked (Err (unfinished.Refused status line)) h =
+    subst (λ c. Lets (λ x. next (view x)) (unless_refused c next) (Err (unfinished.Refused status line))) (sym h.1.3)
+    (sym h.1.1, refl, sym h.1.2)
+passes_lets view next checked (Err (unfinished.Unread line)) h = absurd h
+passes_lets view next checked (Err unfinished.OutputUnwritten) h = absurd h
+passes_lets view next checked (Err unfinished.Memory) h = tt
+
+-- a script whose text was read
+script_there : (bits : ℕ) (told : Told) (name text : List ℕ) → fin.get told name ≡ Some text → length text ≤ script_limit
+    → script_outcome bits told name ≡ needing name (unless_refused (checked_script bits text) (reads_outcome bits told))
+script_there bits told name text there short = rw (there, le-leb (length text) script_limit short) refl
+
+pub script_reached : (bits : ℕ) (told : Told) (name text : List ℕ) → fin.get told name ≡ Some text → length text ≤ script_limit
+    → Reaches (script_outcome bits told name) (unless_refused (checked_script bits text) (reads_outcome bits told))
+script_reached bits told name text there short = rw (script_there bits told name text there short) (needing_reaches name _)
+
+pub script_read : {T : Type 0} (view : T → List Statement) (bits : ℕ) (told : Told) (name text bytes : List ℕ) (r : Result T Unfinished)
+    → fin.get told name ≡ Some text → bytes ≡ text → length text ≤ script_limit → Passes view (checked_script bits bytes) r
+    → Lets (λ x. reads_outcome bits told (view x)) (script_outcome bits told name) r
+script_read view bits told name text bytes r there same short passes =
+    lets_reached (λ x. reads_outcome bits told (view x)) (script_outcome bits told name)
+    (unless_refused (checked_script bits text) (reads_outcome bits told)) r
+    (script_reached bits told name text there short)
+    (passes_lets view (reads_outcome bits told) (checked_script bits text) r (rw same at passes))
 
 -- what a refusal leaves, whatever the files that were read
 refused_as : (o : Outcome) (refusal : Refusal) (names : List (List ℕ)) (status : Status) (line : Option (List ℕ))
@@ -30,99 +100,60 @@ refused_as : (o : Outcome) (refusal : Refusal) (names : List (List ℕ)) (status
 refused_as o refusal names status line e a b =
     (ap (λ (x : Outcome). x.status) e ∙ sym a, ap (λ (x : Outcome). x.effects) e, ap (λ (x : Outcome). x.line) e ∙ sym b)
 
-first_needed : (o : Outcome) (name : List ℕ) (names : List (List ℕ)) → o.needed ≡ name ∷ names → Contains o.needed name
-first_needed o name names e = rw e (0, omega arith, refl)
-
-second_needed : (o : Outcome) (first name : List ℕ) (names : List (List ℕ)) → o.needed ≡ first ∷ name ∷ names → Contains o.needed name
-second_needed o first name names e = rw e (1, omega arith, refl)
-
--- a script that isn't there, is too long, or isn't of the form
+-- a script that isn't there, or is too long
 script_missing : (bits : ℕ) (told : Told) (name : List ℕ) → fin.get told name ≡ None
-    → run_outcome bits told name ≡ record (refused (missing_refusal name)) { needed = name ∷ [] }
+    → script_outcome bits told name ≡ record (refused (missing_refusal name)) { needed = name ∷ [] }
 script_missing bits told name none = rw none refl
 
 longer : (n limit : ℕ) → limit < n → nat_le n limit ≡ false
 longer n limit h = grind (arith, nat_tests)
 
 script_too_long : (bits : ℕ) (told : Told) (name text : List ℕ) → fin.get told name ≡ Some text → script_limit < length text
-    → run_outcome bits told name ≡ record (refused (limit_refusal name script_limit)) { needed = name ∷ [] }
+    → script_outcome bits told name ≡ record (refused (limit_refusal name script_limit)) { needed = name ∷ [] }
 script_too_long bits told name text there long = rw (there, longer (length text) script_limit long) refl
 
-script_of_no_form : (bits : ℕ) (told : Told) (name text : List ℕ) → fin.get told name ≡ Some text → length text ≤ script_limit
-    → sum_script_in bits script_limit text ≡ None → run_outcome bits told name ≡ record (refused script_refusal) { needed = name ∷ [] }
-script_of_no_form bits told name text there short none = rw (there, le-leb (length text) script_limit short, none) refl
-
--- what follows a script: its table
-abbrev table_outcome : ℕ → Told → SumScript → Outcome
-table_outcome bits told script = unless_missing script.table (fin.get told script.table)
-    (λ text. unless_refused (checked_table bits text) (λ m. tables_outcome bits script (m ∷ [])))
-
-script_good : (bits : ℕ) (told : Told) (name text : List ℕ) (script : SumScript) → fin.get told name ≡ Some text
-    → length text ≤ script_limit → sum_script_in bits script_limit text ≡ Some script
-    → run_outcome bits told name ≡ needing name (needing script.table (table_outcome bits told script))
-script_good bits told name text script there short found = rw (there, le-leb (length text) script_limit short, found) refl
-
 -- why a script isn't read, as it is told
-pub script_unread : {N : Type 0} (value : N → ℤ) (bits : ℕ) (told : Option Told) (name : List ℕ) (u : Unread ScriptFault)
-    (r : Unfinished) → ReadsScript bits told name (Err u) → TellsUnread (refusal_of_script name) name u r
-    → ReadsAll value bits told name (Err r)
-script_unread value bits None name u r h t = tt
-script_unread value bits (Some told) name u unfinished.Memory h t = tt
-script_unread value bits (Some told) name unread.Missing (unfinished.Refused status line) h t = refused_as _ (missing_refusal name)
+pub script_unread : {T : Type 0} (next : T → Outcome) (bits : ℕ) (told : Told) (name : List ℕ) (u : Unread TooLong) (r : Unfinished)
+    → ReadsText (Some told) name (Err u) → TellsUnread (refusal_of_text name) name u r
+    → Lets next (script_outcome bits told name) (Err r)
+script_unread next bits told name u unfinished.Memory h t = tt
+script_unread next bits told name unread.Missing (unfinished.Refused status line) h t = refused_as _ (missing_refusal name)
     (name ∷ []) status line (script_missing bits told name h) t.0 t.1
-script_unread value bits (Some told) name (unread.Refused TooLong) (unfinished.Refused status line) h t = refused_as _
+script_unread next bits told name (unread.Refused fault) (unfinished.Refused status line) h t = refused_as _
     (limit_refusal name script_limit) (name ∷ []) status line (script_too_long bits told name h.0 h.1 h.2) t.0 t.1
-script_unread value bits (Some told) name (unread.Refused Form) (unfinished.Refused status line) h t = refused_as _ script_refusal
-    (name ∷ []) status line (script_of_no_form bits told name h.0 h.1 h.2.0 h.2.1) t.0 t.1
-script_unread value bits (Some told) name unread.Fault (unfinished.Unread line) h t =
-    (name, first_needed (run_outcome bits told name) name _ refl, t)
-script_unread value bits (Some told) name u r h t = absurd t
+script_unread next bits told name unread.Fault (unfinished.Unread line) h t = (name, needed_first name _, t)
+script_unread next bits told name u r h t = absurd t
+
+-- a table that was read
+table_there : (bits : ℕ) (told : Told) (name text : List ℕ) (m : Matrix) (next : Matrix → Outcome) → fin.get told name ≡ Some text
+    → array_in bits table_limit text ≡ Some m → with_table bits told name next ≡ needing name (next m)
+table_there bits told name text m next there found = rw (there, found) refl
+
+pub table_read : (bits : ℕ) (told : Told) (name : List ℕ) (m : Matrix) (next : Matrix → Outcome)
+    → ReadsTable bits (Some told) name (Ok m) → Reaches (with_table bits told name next) (next m)
+table_read bits told name m next h = rw (table_there bits told name h.0 m next h.1 h.2) (needing_reaches name (next m))
 
 -- a table that isn't there, or isn't of the form
-table_missing : (bits : ℕ) (told : Told) (script : SumScript) → fin.get told script.table ≡ None
-    → table_outcome bits told script ≡ refused (missing_refusal script.table)
-table_missing bits told script none = rw none refl
+table_missing : (bits : ℕ) (told : Told) (name : List ℕ) (next : Matrix → Outcome) → fin.get told name ≡ None
+    → with_table bits told name next ≡ record (refused (missing_refusal name)) { needed = name ∷ [] }
+table_missing bits told name next none = rw none refl
 
-table_of_no_form : (bits : ℕ) (told : Told) (script : SumScript) (text : List ℕ) → fin.get told script.table ≡ Some text
-    → array_in bits table_limit text ≡ None → table_outcome bits told script ≡ refused table_refusal
-table_of_no_form bits told script text there none = rw (there, none) refl
+table_of_no_form : (bits : ℕ) (told : Told) (name text : List ℕ) (next : Matrix → Outcome) → fin.get told name ≡ Some text
+    → array_in bits table_limit text ≡ None → with_table bits told name next ≡ record (refused table_refusal) { needed = name ∷ [] }
+table_of_no_form bits told name text next there none = rw (there, none) refl
 
 -- why a table isn't read, as it is told
-table_unread_in : {N : Type 0} (value : N → ℤ) (bits : ℕ) (told : Told) (name : List ℕ) (script : SumScript) (u : Unread MtxFault)
-    (r : Unfinished) → ReadsScript bits (Some told) name (Ok script) → ReadsTable bits (Some told) script.table (Err u)
-    → TellsUnread refusal_of_table script.table u r
-    → ReadsAll value bits (Some told) name (Err r)
-table_unread_in value bits told name script u unfinished.Memory s h t = tt
-table_unread_in value bits told name script unread.Missing (unfinished.Refused status line) s h t =
-    refused_as _ (missing_refusal script.table) (name ∷ script.table ∷ []) status line
-    (script_good bits told name s.0 script s.1 s.2.0 s.2.1
-    ∙ ap (λ (o : Outcome). needing name (needing script.table o)) (table_missing bits told script h)) t.0 t.1
-table_unread_in value bits told name script (unread.Refused fault) (unfinished.Refused status line) s h t =
-    refused_as _ table_refusal (name ∷ script.table ∷ []) status line
-    (script_good bits told name s.0 script s.1 s.2.0 s.2.1
-    ∙ ap (λ (o : Outcome). needing name (needing script.table o)) (table_of_no_form bits told script h.0 h.1 h.2.1))
+pub table_unread : {T : Type 0} (then : T → Outcome) (bits : ℕ) (told : Told) (name : List ℕ) (next : Matrix → Outcome)
+    (u : Unread MtxFault) (r : Unfinished) → ReadsTable bits (Some told) name (Err u) → TellsUnread refusal_of_table name u r
+    → Lets then (with_table bits told name next) (Err r)
+table_unread then bits told name next u unfinished.Memory h t = tt
+table_unread then bits told name next unread.Missing (unfinished.Refused status line) h t =
+    refused_as _ (missing_refusal name) (name ∷ []) status line (table_missing bits told name next h) t.0 t.1
+table_unread then bits told name next (unread.Refused fault) (unfinished.Refused status line) h t =
+    refused_as _ table_refusal (name ∷ []) status line (table_of_no_form bits told name h.0 next h.1 h.2.1)
     (t.0 ∙ ap (λ (f : MtxFault). answer.BadFile (file.Mtx f)) h.2.0) t.1
-table_unread_in value bits told name script unread.Fault (unfinished.Unread line) s h t = (
-  script.table,
-  second_needed (run_outcome bits told name) name script.table _
-      (ap (λ (o : Outcome). o.needed) (script_good bits told name s.0 script s.1 s.2.0 s.2.1)),
-  t,
-)
-table_unread_in value bits told name script u r s h t = absurd t
-
-table_of : (bits : ℕ) (told : Told) (told' : Option Told) (table name : List ℕ) (result : Result Matrix (Unread MtxFault))
-    → told' ≡ Some told → table ≡ name → ReadsTable bits told' table result → ReadsTable bits (Some told) name result
-table_of bits told told' table name result same is h = subst (λ (n : List ℕ). ReadsTable bits (Some told) n result) is
-    (subst (λ (t : Option Told). ReadsTable bits t table result) same h)
-
-pub table_unread : {N : Type 0} (value : N → ℤ) (bits : ℕ) (told told' : Option Told) (name table : List ℕ) (script : SumScript)
-    (u : Unread MtxFault) (r : Unfinished) → told' ≡ told → table ≡ script.table
-    → ReadsScript bits told name (Ok script) → ReadsTable bits told' table (Err u) → TellsUnread refusal_of_table table u r
-    → ReadsAll value bits told name (Err r)
-table_unread value bits None told' name table script u r same is s h t = tt
-table_unread value bits (Some told) told' name table script u r same is s h t =
-    table_unread_in value bits told name script u r s (table_of bits told told' table script.table (Err u) same is h)
-    (subst (λ (n : List ℕ). TellsUnread refusal_of_table n u r) is t)
+table_unread then bits told name next unread.Fault (unfinished.Unread line) h t = (name, needed_first name _, t)
+table_unread then bits told name next u r h t = absurd t
 
 -- the file that is being read is one that is needed
 needed_in : (needed : List (List ℕ)) (name : List ℕ) (reading : Option Reading) → Contains needed name → ReadsNoOther name reading
@@ -130,11 +161,53 @@ needed_in : (needed : List (List ℕ)) (name : List ℕ) (reading : Option Readi
 needed_in needed name None has h = tt
 needed_in needed name (Some r) has h = rw h has
 
-pub table_needed : (bits : ℕ) (told : Option Told) (name table : List ℕ) (script : SumScript) (reading : Option Reading)
-    → table ≡ script.table → ReadsScript bits told name (Ok script) → ReadsNoOther table reading
-    → IsNeededWhereTold bits name told reading
-table_needed bits None name table script reading is s h = tt
-table_needed bits (Some told) name table script reading is s h =
-    needed_in (run_outcome bits told name).needed script.table reading
-    (second_needed (run_outcome bits told name) name script.table _
-    (ap (λ (o : Outcome). o.needed) (script_good bits told name s.0 script s.1 s.2.0 s.2.1))) (rw is at h)
+pub script_needed : (bits : ℕ) (told : Told) (name : List ℕ) (reading : Option Reading) → ReadsNoOther name reading
+    → IsNeeded (script_outcome bits told name).needed reading
+script_needed bits told name reading h = needed_in (script_outcome bits told name).needed name reading (0, omega arith, refl) h
+
+-- and so is one that the tables need, or the one before them
+pub tables_needed : (bits : ℕ) (told : Told) (name : List ℕ) (o : Outcome) (old reading : Option Reading) → ReadsNoOther name old
+    → Reaches (script_outcome bits told name) o → ReadsOnly o.needed old reading → IsNeeded (script_outcome bits told name).needed reading
+tables_needed bits told name o old None h on only = tt
+tables_needed bits told name o old (Some r) h on (inl same) = subst (IsNeeded (script_outcome bits told name).needed) same
+    (script_needed bits told name old h)
+tables_needed bits told name o old (Some r) h on (inr has) = on.needed r.name has
+
+-- some tables were read, and the rest of them decide
+abbrev pub ReachesRest : ℕ → Told → List (List ℕ) → List (List ℕ) → List Matrix → (List Matrix → Outcome) → Type 0
+ReachesRest bits told all rest done next = (then : List Matrix → Outcome) × ((ms : List Matrix) → then ms ≡ next (done ++ ms))
+    × Reaches (with_tables bits told all next) (with_tables bits told rest then)
+
+pub none_read : (bits : ℕ) (told : Told) (all : List (List ℕ)) (next : List Matrix → Outcome) → ReachesRest bits told all all [] next
+none_read bits told all next = (next, (λ ms. refl), reaches_itself _)
+
+pub one_read : (bits : ℕ) (told : Told) (all : List (List ℕ)) (name : List ℕ) (rest : List (List ℕ)) (done : List Matrix) (m : Matrix)
+    (next : List Matrix → Outcome) → ReachesRest bits told all (name ∷ rest) done next
+    → ((after : Matrix → Outcome) → Reaches (with_table bits told name after) (after m))
+    → ReachesRest bits told all rest (done ++ m ∷ []) next
+one_read bits told all name rest done m next so_far read = (
+  λ ms. so_far.0 (m ∷ ms),
+  λ ms. so_far.1 (m ∷ ms) ∙ ap next (sym (append_assoc done (m ∷ []) ms)),
+  reaches_on _ _ _ so_far.2 (read (λ x. with_tables bits told rest (λ ms. so_far.0 (x ∷ ms)))),
+)
+
+pub all_read : (bits : ℕ) (told : Told) (all : List (List ℕ)) (done : List Matrix) (next : List Matrix → Outcome)
+    → ReachesRest bits told all [] done next → Reaches (with_tables bits told all next) (next done)
+all_read bits told all done next so_far =
+    subst (λ (o : Outcome). Reaches (with_tables bits told all next) o)
+    (so_far.1 [] ∙ ap next (append-nil done)) so_far.2
+
+pub one_unread : {U : Type 0} (then : U → Outcome) (bits : ℕ) (told : Told) (all : List (List ℕ)) (name : List ℕ) (rest : List (List ℕ))
+    (done : List Matrix) (next : List Matrix → Outcome) (e : Unfinished) → ReachesRest bits told all (name ∷ rest) done next
+    → ((after : Matrix → Outcome) → Lets after (with_table bits told name after) (Err e))
+    → Lets then (with_tables bits told all next) (Err e)
+one_unread then bits told all name rest done next e so_far read =
+    let after : Matrix → Outcome = λ x. with_tables bits told rest (λ ms. so_far.0 (x ∷ ms)) in
+    lets_error after then (with_tables bits told all next) e
+    (lets_reached after (with_tables bits told all next) (with_table bits told name after) (Err e) so_far.2 (read after))
+
+pub one_needed : (bits : ℕ) (told : Told) (all : List (List ℕ)) (name : List ℕ) (rest : List (List ℕ)) (done : List Matrix)
+    (next : List Matrix → Outcome) (old reading : Option Reading) → ReachesRest bits told all (name ∷ rest) done next
+    → ReadsNoOther name reading → ReadsOnly (with_tables bits told all next).needed old reading
+one_needed bits told all name rest done next old None so_far h = tt
+one_needed bits told all name rest done next old (Some r) so_far h = inr (rw h (so_far.2.needed name (needed_first name _)))

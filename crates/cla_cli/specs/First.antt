@@ -5,7 +5,7 @@ use Rattle.cla_num.specs.Counts.{Counts}
 use Rattle.cla_num.specs.Fault.{fault_of, exactly}
 use Rattle.cla_num.specs.declared.fault.Refused.{Refused}
 use Rattle.cla_num.specs.declared.fault.Refused.TheVariants.{Op, Memory}
-use Rattle.cla_group.specs.Groups.{value_of, cell_of, first_row_of}
+use Rattle.cla_layout.specs.Groups.{value_of, cell_of, first_row_of}
 
 -- the second group has the codes of the first one and as many tuples, and its entries are the first one's times an integer
 pub record IsScaled (k : ℤ) (width : ℕ) (codes : List ℕ) (tuples : List (List ℤ)) (width' : ℕ) (codes' : List ℕ) (tuples' : List (List ℤ)) : Type 0 where

@@ -3,10 +3,11 @@ pub mod First
 pub mod Products
 pub mod Words
 pub mod Texts
-pub mod Factor
+pub mod Statements
+pub mod Tables
+pub mod Evaluate
 pub mod Outcome
-pub mod Script
 pub mod Needed
-pub mod WholeScript
 pub mod Run
+pub mod Runs
 pub mod Parts

@@ -6,15 +6,13 @@ use Rattle.std.specs.declared.alloc.Global.{Global}
 use Rattle.cla_spec.specs.Files.{Told}
 use Rattle.cla_spec.specs.Matrix.{Matrix}
 use Rattle.cla_spec.specs.ArrayFile.{array_in}
-use Rattle.cla_spec.specs.SumScript.{SumScript, sum_script_in}
 use Rattle.cla_io.specs.State.{State, Reading}
 use Rattle.cla_io.specs.Counts.{Rose}
 use Rattle.cla_mtx.specs.declared.fault.MtxFault.{MtxFault}
 use Rattle.cla_mtx.specs.declared.fault.MtxFault.TheVariants as mtx
 use Rattle.cla_cli.specs.declared.unread.Unread.{Unread}
 use Rattle.cla_cli.specs.declared.unread.Unread.TheVariants.{Missing, Fault, Memory, Refused}
-use Rattle.cla_cli.specs.declared.unread.ScriptFault.{ScriptFault}
-use Rattle.cla_cli.specs.declared.unread.ScriptFault.TheVariants.{TooLong, Form}
+use Rattle.cla_cli.specs.declared.unread.TooLong.{TooLong}
 use Rattle.cla_cli.specs.Outcome.{script_limit, table_limit}
 
 -- a file is missing only where misses rose, and can't be read only where faults of reading rose; each count stays with
@@ -56,23 +54,11 @@ Opens {R} told name reading (Err e) = (reading ≡ None)
 abbrev pub IsText : List ℕ → Vec ℕ Global → Type 0
 IsText text bytes = (bytes.items ≡ text) × (length text ≤ script_limit)
 
-abbrev pub IsTooLong : List ℕ → ScriptFault → Type 0
-IsTooLong text TooLong = script_limit < length text
-IsTooLong text Form = ⊥
+abbrev pub IsTooLong : List ℕ → TooLong → Type 0
+IsTooLong text fault = script_limit < length text
 
-abbrev pub ReadsText : Option Told → List ℕ → Result (Vec ℕ Global) (Unread ScriptFault) → Type 0
+abbrev pub ReadsText : Option Told → List ℕ → Result (Vec ℕ Global) (Unread TooLong) → Type 0
 ReadsText told name result = ReadsWhereTold IsText IsTooLong told name result
-
--- a script
-abbrev pub IsScript : ℕ → List ℕ → SumScript → Type 0
-IsScript bits text script = (length text ≤ script_limit) × (sum_script_in bits script_limit text ≡ Some script)
-
-abbrev pub IsNoScript : ℕ → List ℕ → ScriptFault → Type 0
-IsNoScript bits text TooLong = script_limit < length text
-IsNoScript bits text Form = (length text ≤ script_limit) × (sum_script_in bits script_limit text ≡ None)
-
-abbrev pub ReadsScript : ℕ → Option Told → List ℕ → Result SumScript (Unread ScriptFault) → Type 0
-ReadsScript bits told name result = ReadsWhereTold (IsScript bits) (IsNoScript bits) told name result
 
 -- a table
 abbrev pub IsTable : ℕ → List ℕ → Matrix → Type 0

@@ -1,25 +1,30 @@
 -- What a command line comes to: its status, its effects, the files that it needs, its counts and its line on standard error.
-use Rattle.std.specs.Prelude.{ℕ, ℤ, pos, ◌*◌, ◌^◌, List, [], ◌∷◌, length, Option, Some, None, Result, Ok, Err, nat_le, if◌then◌else◌}
-use Rattle.std.specs.Option.{option_map}
+use Rattle.std.specs.Prelude.{ℕ, ◌^◌, List, [], ◌∷◌, length, map, Option, Some, None, Bool, Result, Ok, Err, nat_le, if◌then◌else◌}
 use Rattle.std.specs.FinMap as fin
 use Rattle.cla_spec.specs.Files.{Told}
-use Rattle.cla_spec.specs.Effects.{Effect, Out}
-use Rattle.cla_spec.specs.Matrix.{Matrix, entry, exact_sum, scaled_entry, scaled}
+use Rattle.cla_spec.specs.Effects.{Effect}
+use Rattle.cla_spec.specs.Matrix.{Matrix}
 use Rattle.cla_spec.specs.ArrayFile.{array_in}
-use Rattle.cla_spec.specs.SumScript.{SumScript, sum_script_in}
 use Rattle.cla_num.specs.Counts.{Counts, zero_counts}
-use Rattle.cla_num.specs.Fault.{fault_of, exactly, scalar_fault}
 use Rattle.cla_num.specs.declared.fault.OpFault.{OpFault}
 use Rattle.cla_mtx.specs.declared.fault.MtxFault.TheVariants as mtx
+use Rattle.cla_grammar.specs.declared.place.Place.{Place}
+use Rattle.cla_grammar.specs.declared.words.ScriptKind.TheVariants.{Clash}
+use Rattle.cla_grammar.specs.Faults as grammar
+use Rattle.cla_grammar.specs.Tree.{Statement}
+use Rattle.cla_tokens.specs.Scripts.{script_in}
+use Rattle.cla_script.specs.Clashes.{first_clash}
+use Rattle.cla_check.specs.Scripts.{first_shape_fault}
+use Rattle.cla_check.specs.declared.shape.Shape.{Shape}
+use Rattle.cla_check.specs.declared.fault.Fault as shapes
 use Rattle.cla_cli.specs.declared.status.Status.{Status}
 use Rattle.cla_cli.specs.declared.status.Status.TheVariants.{Done, Usage, Missing, BadScript, BadFile, Limit, Operator}
-use Rattle.cla_grammar.specs.declared.place.Place.{Place}
 use Rattle.cla_cli.specs.declared.status.BadKind.{BadKind}
 use Rattle.cla_cli.specs.declared.status.BadKind.TheVariants as kind
-use Rattle.cla_grammar.specs.declared.words.ScriptKind.TheVariants as script
 use Rattle.cla_cli.specs.declared.status.FileFault.TheVariants as file
 use Rattle.cla_cli.specs.Words.{Command, RunScript, accepted_command}
-use Rattle.cla_cli.specs.Texts.{number_line, usage_line, missing_line, limit_line, script_line, operator_line}
+use Rattle.cla_cli.specs.Texts.{usage_line, missing_line, limit_line, script_line, operator_line}
+use Rattle.cla_cli.specs.Statements.{Trace, trace_of, script_work, are_built, files_read}
 
 -- how many bytes a script and a table may have
 abbrev pub script_limit : ℕ
@@ -88,16 +93,17 @@ place_at line col = record { line = line; col = col }
 abbrev pub refusal_at : Place → BadKind → Refusal
 refusal_at place kind = record { status = BadScript place kind; line = Some (script_line place kind) }
 
--- a text is no script of the form that runs
-abbrev pub script_refusal : Refusal
-script_refusal = refusal_at (place_at 1 1) (kind.Script script.Syntax)
+-- the checks of a script's text: its first refused token, then the files that it both reads and writes
+abbrev pub unless_clash : List Statement → Option Place → Result (List Statement) Refusal
+unless_clash xs None = Ok xs
+unless_clash xs (Some place) = Err (refusal_at place (kind.Script Clash))
 
-abbrev pub script_or_refusal : Option SumScript → Result SumScript Refusal
-script_or_refusal None = Err script_refusal
-script_or_refusal (Some script) = Ok script
+abbrev pub unless_token : Result (List Statement) grammar.Fault → Result (List Statement) Refusal
+unless_token (Ok xs) = unless_clash xs (first_clash xs)
+unless_token (Err fault) = Err (refusal_at fault.place (kind.Script fault.kind))
 
-abbrev pub checked_script : ℕ → List ℕ → Result SumScript Refusal
-checked_script bits text = script_or_refusal (sum_script_in bits script_limit text)
+abbrev pub checked_script : ℕ → List ℕ → Result (List Statement) Refusal
+checked_script bits text = unless_token (script_in bits text)
 
 -- a text is no table of the form that is read; no line tells it today
 abbrev pub table_refusal : Refusal
@@ -110,55 +116,14 @@ table_or_refusal (Some m) = Ok m
 abbrev pub checked_table : ℕ → List ℕ → Result Matrix Refusal
 checked_table bits text = table_or_refusal (array_in bits table_limit text)
 
--- the tables of these names, one after the other
+-- the table of this name, and the tables of these names one after the other
+abbrev pub with_table : ℕ → Told → List ℕ → (Matrix → Outcome) → Outcome
+with_table bits told name next =
+    needing name (unless_missing name (fin.get told name) (λ text. unless_refused (checked_table bits text) next))
+
 abbrev pub with_tables : ℕ → Told → List (List ℕ) → (List Matrix → Outcome) → Outcome
 with_tables bits told [] next = next []
-with_tables bits told (name ∷ names) next =
-    needing name (unless_missing name (fin.get told name)
-    (λ text. unless_refused (checked_table bits text) (λ m. with_tables bits told names (λ ms. next (m ∷ ms)))))
-
--- What the statements of a script come to: their effects, and the operator that fails after these, if one does.
-pub record Trace : Type 0 where
-  pub effects : List Effect
-  pub fault : Option (Place × OpFault)
-
--- a number is printed
-abbrev pub prints : ℤ → Trace
-prints v = record { effects = Out (number_line v) ∷ []; fault = None }
-
--- after these effects, the operator at this place fails
-abbrev pub fails_at : List Effect → Place → OpFault → Trace
-fails_at effects place fault = record { effects = effects; fault = Some (place, fault) }
-
--- the operator at this place fails, or else the statement goes on
-abbrev pub unless_fault : List Effect → Place → Option OpFault → Trace → Trace
-unless_fault effects place None next = next
-unless_fault effects place (Some fault) next = fails_at effects place fault
-
--- where a sum script adds, and where it multiplies: the word `sum` and the sign `*` of its second line
-abbrev pub sum_place : Place
-sum_place = place_at 2 7
-
-abbrev pub product_place : Place
-product_place = place_at 2 13
-
--- an exact sum is printed
-abbrev pub exact_trace : ℕ → ℤ → Trace
-exact_trace bits exact = unless_fault [] sum_place (scalar_fault bits (Some exact)) (prints exact)
-
--- the first fault of a matrix times an integer
-abbrev pub product_fault : ℕ → Matrix → ℤ → Option OpFault
-product_fault bits m k = fault_of bits m.rows m.cols (exactly (scaled_entry (entry m) k))
-
--- the sum of a matrix, times a factor if there is one
-abbrev pub factor_trace : ℕ → Option ℤ → Matrix → Trace
-factor_trace bits None m = exact_trace bits (exact_sum m)
-factor_trace bits (Some k) m = unless_fault [] product_place (product_fault bits m k) (exact_trace bits (exact_sum (scaled m k)))
-
--- the counts of a sum of so many values, each times a factor if there is one
-abbrev pub factor_counts : Option ℤ → ℕ → Counts
-factor_counts None values = record { mults = values; maps = 0 }
-factor_counts (Some k) values = record { mults = values; maps = values }
+with_tables bits told (name ∷ names) next = with_table bits told name (λ m. with_tables bits told names (λ ms. next (m ∷ ms)))
 
 -- all operators were evaluated, or one failed
 abbrev pub status_after : Option (Place × OpFault) → Status
@@ -173,29 +138,40 @@ abbrev pub evaluated : Counts → Trace → Outcome
 evaluated counts trace = record
     { status = status_after trace.fault; effects = trace.effects; needed = []; counts = counts; line = line_after trace.fault }
 
--- a sum script over its table
-abbrev pub sum_outcome : ℕ → Option ℤ → Matrix → Outcome
-sum_outcome bits factor m = evaluated (factor_counts factor (m.rows * m.cols)) (factor_trace bits factor m)
+-- the checks of a script over its tables: shapes, and whether all statements run today
+abbrev pub shape_of_table : Matrix → Shape
+shape_of_table m = record { rows = m.rows; cols = m.cols }
 
--- a script over its tables, of which a sum script has one
-abbrev pub tables_outcome : ℕ → SumScript → List Matrix → Outcome
-tables_outcome bits script [] = evaluated zero_counts (record { effects = []; fault = None })
-tables_outcome bits script (m ∷ ms) = sum_outcome bits (option_map pos script.factor) m
+abbrev pub unbuilt_refusal : Refusal
+unbuilt_refusal = refusal_at (place_at 1 1) kind.Unbuilt
 
--- the tables that a script reads, in order
-abbrev pub tables_of : SumScript → List (List ℕ)
-tables_of script = script.table ∷ []
+abbrev pub unless_shape : Option shapes.Fault → Bool → Result (Unit {0}) Refusal
+unless_shape None built = if built then Ok tt else Err unbuilt_refusal
+unless_shape (Some fault) built = Err (refusal_at fault.place (kind.Shape fault.kind))
 
--- what a script comes to: it is there, isn't too long, and is of the form; then each table; then its operators
-abbrev pub run_outcome : ℕ → Told → List ℕ → Outcome
-run_outcome bits told name =
+abbrev pub checked_statements : List Statement → List Matrix → Result (Unit {0}) Refusal
+checked_statements xs tables = unless_shape (first_shape_fault xs (map shape_of_table tables)) (are_built xs)
+
+-- what statements come to, over their tables
+abbrev pub statements_outcome : ℕ → List Statement → List Matrix → Outcome
+statements_outcome bits xs tables = evaluated (script_work [] xs tables) (trace_of bits [] xs tables)
+
+abbrev pub tables_outcome : ℕ → List Statement → List Matrix → Outcome
+tables_outcome bits xs tables = unless_refused (checked_statements xs tables) (λ u. statements_outcome bits xs tables)
+
+-- what statements come to: each table in the order of its reads, then shapes, then the statements one after the other
+abbrev pub reads_outcome : ℕ → Told → List Statement → Outcome
+reads_outcome bits told xs = with_tables bits told (files_read xs) (tables_outcome bits xs)
+
+-- what a script comes to: it is there, isn't too long, and its text is a script
+abbrev pub script_outcome : ℕ → Told → List ℕ → Outcome
+script_outcome bits told name =
     needing name
     (unless_missing name (fin.get told name)
-    (λ text. unless_longer name script_limit text
-    (unless_refused (checked_script bits text) (λ script. with_tables bits told (tables_of script) (tables_outcome bits script)))))
+    (λ text. unless_longer name script_limit text (unless_refused (checked_script bits text) (reads_outcome bits told))))
 
 abbrev pub command_outcome : ℕ → Told → Command → Outcome
-command_outcome bits told (RunScript name) = run_outcome bits told name
+command_outcome bits told (RunScript name) = script_outcome bits told name
 
 -- what these words come to over files that hold this, with numbers of this many bits: the checks come in this order, and
 -- the first refusal decides

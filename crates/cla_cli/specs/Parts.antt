@@ -1,28 +1,27 @@
 -- What the parts of the top call do.
-use Rattle.std.specs.Prelude.{◌≡◌, ℕ, ℤ, List, [], take, Option, Some, None, Contains, ◌⊎◌, Result, Ok, Err}
-use Rattle.std.specs.Option.{option_map}
+use Rattle.std.specs.Prelude.{◌≡◌, ℕ, List, [], Option, Some, None, Contains, ◌⊎◌, Result, Ok, Err}
 use Rattle.cla_spec.specs.Files.{Told}
-use Rattle.cla_spec.specs.Effects.{Out, grown}
-use Rattle.cla_spec.specs.Matrix.{Matrix}
+use Rattle.cla_spec.specs.Effects.{Out}
 use Rattle.cla_num.specs.Counts.{Counts}
 use Rattle.cla_io.specs.State.{State, Reading}
-use Rattle.cla_io.specs.Counts.{Rose}
-use Rattle.cla_io.specs.declared.stop.Stop.{Stop}
-use Rattle.cla_io.specs.declared.stop.Stop.TheVariants as stop
 use Rattle.cla_mtx.specs.declared.fault.MtxFault.{MtxFault}
+use Rattle.cla_grammar.specs.declared.place.Place.{Place}
+use Rattle.cla_script.specs.declared.fault.ScriptFault.{ScriptFault}
+use Rattle.cla_script.specs.declared.fault.ScriptFault.TheVariants as script
 use Rattle.cla_cli.specs.declared.status.Status.{Status}
 use Rattle.cla_cli.specs.declared.status.Status.TheVariants as answer
+use Rattle.cla_cli.specs.declared.status.BadKind.{BadKind}
+use Rattle.cla_cli.specs.declared.status.BadKind.TheVariants as bad
 use Rattle.cla_cli.specs.declared.status.FileFault.TheVariants as file
 use Rattle.cla_cli.specs.declared.unread.Unread.{Unread}
 use Rattle.cla_cli.specs.declared.unread.Unread.TheVariants as unread
-use Rattle.cla_cli.specs.declared.unread.ScriptFault.{ScriptFault}
-use Rattle.cla_cli.specs.declared.unread.ScriptFault.TheVariants.{TooLong, Form}
+use Rattle.cla_cli.specs.declared.unread.TooLong.{TooLong}
 use Rattle.cla_cli.specs.declared.unfinished.Unfinished.{Unfinished}
 use Rattle.cla_cli.specs.declared.unfinished.Unfinished.TheVariants as unfinished
-use Rattle.cla_cli.specs.declared.evaluate.Failed.{Failed}
-use Rattle.cla_cli.specs.declared.evaluate.Failed.TheVariants as failed
-use Rattle.cla_cli.specs.Texts.{memory_line, unreadable_line, unwritable_line, missing_line, number_line}
-use Rattle.cla_cli.specs.Outcome.{Outcome, Refusal, Trace, needing, limit_refusal, script_refusal, script_limit, prints, fails_at, sum_outcome, run_outcome}
+use Rattle.cla_cli.specs.declared.statements.Halted.{Halted}
+use Rattle.cla_cli.specs.declared.statements.Halted.TheVariants as halted
+use Rattle.cla_cli.specs.Texts.{memory_line, unreadable_line, unwritable_line, missing_line, script_line, operator_line}
+use Rattle.cla_cli.specs.Outcome.{Outcome, Refusal, limit_refusal, refusal_at, script_limit, script_outcome}
 use Rattle.cla_cli.specs.Run.{Settled, OutOfMemory, ReadFailed, WriteFailed, IsRefusal, Written, MayEnd, FaultsCome, MissesCome, HasLine, HasFrontOfLine, RiseBy, RiseByAtMost, AreNotBelow}
 
 -- A command is done, or why it isn't: each as one ending of its outcome.
@@ -39,7 +38,7 @@ abbrev pub ComesWhereTold : {U : Type 0} → ℕ → List ℕ → Option Told �
     → Result U Unfinished → Type 0
 ComesWhereTold bits name None told' old new out out' result = told' ≡ None
 ComesWhereTold bits name (Some told) None old new out out' result = ⊥
-ComesWhereTold bits name (Some told) (Some told') old new out out' result = Comes (run_outcome bits told name) told told' old new out
+ComesWhereTold bits name (Some told) (Some told') old new out out' result = Comes (script_outcome bits told name) told told' old new out
     out' result
 
 -- which counts tell of it, whether anything else is told or not
@@ -61,7 +60,7 @@ HasCounts counts before now (Err unfinished.Memory) = RiseByAtMost counts before
 
 abbrev pub HasCountsWhereTold : {U : Type 0} → ℕ → List ℕ → Option Told → Counts → Counts → Result U Unfinished → Type 0
 HasCountsWhereTold bits name None before now result = AreNotBelow before now
-HasCountsWhereTold bits name (Some told) before now result = HasCounts (run_outcome bits told name).counts before now result
+HasCountsWhereTold bits name (Some told) before now result = HasCounts (script_outcome bits told name).counts before now result
 
 -- no file is being read but one that the checks need
 abbrev pub IsNeeded : List (List ℕ) → Option Reading → Type 0
@@ -70,7 +69,7 @@ IsNeeded needed (Some r) = Contains needed r.name
 
 abbrev pub IsNeededWhereTold : ℕ → List ℕ → Option Told → Option Reading → Type 0
 IsNeededWhereTold bits name None reading = Unit {0}
-IsNeededWhereTold bits name (Some told) reading = IsNeeded (run_outcome bits told name).needed reading
+IsNeededWhereTold bits name (Some told) reading = IsNeeded (script_outcome bits told name).needed reading
 
 -- why a file of this name isn't read, as it is told; `refusal` is what a check answers of its text
 abbrev pub TellsUnread : {R : Type 0} → (R → Refusal) → List ℕ → Unread R → Unfinished → Type 0
@@ -80,41 +79,55 @@ TellsUnread refusal name (unread.Refused r) (unfinished.Refused status line) = (
 TellsUnread refusal name unread.Fault (unfinished.Unread line) = line ≡ unreadable_line name
 TellsUnread refusal name reason told = ⊥
 
-abbrev pub refusal_of_script : List ℕ → ScriptFault → Refusal
-refusal_of_script name TooLong = limit_refusal name script_limit
-refusal_of_script name Form = script_refusal
+abbrev pub refusal_of_text : List ℕ → TooLong → Refusal
+refusal_of_text name fault = limit_refusal name script_limit
 
 abbrev pub refusal_of_table : MtxFault → Refusal
 refusal_of_table fault = record { status = answer.BadFile (file.Mtx fault); line = None }
 
--- the matrix and the number that were read make the outcome, or the checks of the reads refuse
-abbrev pub ReadsAllIn : {N : Type 0} → (N → ℤ) → ℕ → Outcome → List ℕ → Result (Matrix × Option N) Unfinished → Type 0
-ReadsAllIn value bits o name (Ok x) = (table : List ℕ) × (o ≡ needing name (needing table (sum_outcome bits (option_map value x.1) x.0)))
-ReadsAllIn value bits o name (Err (unfinished.Refused status line)) = (o.status ≡ status) × (o.effects ≡ []) × (o.line ≡ line)
-ReadsAllIn value bits o name (Err (unfinished.Unread line)) = (file : List ℕ) × Contains o.needed file × (line ≡ unreadable_line file)
-ReadsAllIn value bits o name (Err unfinished.OutputUnwritten) = ⊥
-ReadsAllIn value bits o name (Err unfinished.Memory) = Unit {0}
+-- a script is refused at a place, as it is told
+abbrev pub RefusesAt : Place → BadKind → Unfinished → Type 0
+RefusesAt place kind (unfinished.Refused status line) = (status ≡ answer.BadScript place kind) × (line ≡ Some (script_line place kind))
+RefusesAt place kind unfinished.Memory = Unit {0}
+RefusesAt place kind told = ⊥
 
-abbrev pub ReadsAll : {N : Type 0} → (N → ℤ) → ℕ → Option Told → List ℕ → Result (Matrix × Option N) Unfinished → Type 0
-ReadsAll value bits None name result = Unit {0}
-ReadsAll value bits (Some told) name result = ReadsAllIn value bits (run_outcome bits told name) name result
+-- why a text is no script, as it is told
+abbrev pub TellsFault : ScriptFault → Unfinished → Type 0
+TellsFault (script.At place kind) told = RefusesAt place (bad.Script kind) told
+TellsFault script.Memory told = told ≡ unfinished.Memory
 
--- a number is printed, or the operator that fails is known, as the script comes to; of want of memory nothing is said
-abbrev pub ComesTo : {N : Type 0} → (N → ℤ) → Trace → Result N Failed → Type 0
-ComesTo value trace (Ok n) = trace ≡ prints (value n)
-ComesTo value trace (Err (failed.Operator place fault)) = trace ≡ fails_at [] place fault
-ComesTo value trace (Err failed.Memory) = Unit {0}
+-- a check of a script passes with this view of what was checked, or it refuses the script at a place
+abbrev pub Passes : {T X : Type 0} → (T → X) → Result X Refusal → Result T Unfinished → Type 0
+Passes view checked (Ok x) = checked ≡ Ok (view x)
+Passes view checked (Err (unfinished.Refused status line)) = (place : Place) × ((kind : BadKind) × (status ≡ answer.BadScript place kind)
+    × (line ≡ Some (script_line place kind)) × (checked ≡ Err (refusal_at place kind)))
+Passes view checked (Err unfinished.Memory) = Unit {0}
+Passes view checked (Err e) = ⊥
 
--- the counts of an evaluation
-abbrev pub CountsTo : {T : Type 0} → Counts → Counts → Counts → Result T Failed → Type 0
-CountsTo counts before now (Ok n) = RiseBy counts before now
-CountsTo counts before now (Err e) = RiseByAtMost counts before now
+-- the first checks of an outcome pass, and the rest of them decide; files that they read were needed
+pub record Reaches (whole rest : Outcome) : Type 0 where
+  pub status : whole.status ≡ rest.status
+  pub effects : whole.effects ≡ rest.effects
+  pub counts : whole.counts ≡ rest.counts
+  pub line : whole.line ≡ rest.line
+  pub needed : (name : List ℕ) → Contains rest.needed name → Contains whole.needed name
 
--- a number's line was put out, or a prefix of it where that failed
-abbrev pub Prints : {U : Type 0} → ℤ → Written → Written → Result U Stop → Type 0
-Prints v out out' (Ok u) = (out'.told ≡ grown out.told (number_line v)) × (out'.faults ≡ out.faults)
-Prints v out out' (Err stop.Failed) = Rose out.faults out'.faults × ((n : ℕ) × (out'.told ≡ grown out.told (take n (number_line v))))
-Prints v out out' (Err stop.Memory) = (out'.faults ≡ out.faults) × ((n : ℕ) × (out'.told ≡ grown out.told (take n (number_line v))))
+-- the checks of a part pass, and what follows decides; or one of them refuses, or a needed file can't be read
+abbrev pub Lets : {T : Type 0} → (T → Outcome) → Outcome → Result T Unfinished → Type 0
+Lets next o (Ok x) = Reaches o (next x)
+Lets next o (Err (unfinished.Refused status line)) = (o.status ≡ status) × (o.effects ≡ []) × (o.line ≡ line)
+Lets next o (Err (unfinished.Unread line)) = (file : List ℕ) × Contains o.needed file × (line ≡ unreadable_line file)
+Lets next o (Err unfinished.OutputUnwritten) = ⊥
+Lets next o (Err unfinished.Memory) = Unit {0}
+
+-- why the statements ended before the last one, as it is told
+abbrev pub TellsHalt : Halted → Unfinished → Type 0
+TellsHalt (halted.Operator place fault) (unfinished.Refused status line) = (status ≡ answer.Operator place fault)
+    × (line ≡ Some (operator_line place fault))
+TellsHalt halted.Unwritten unfinished.OutputUnwritten = Unit {0}
+TellsHalt halted.Unwritten unfinished.Memory = ⊥
+TellsHalt halt unfinished.Memory = Unit {0}
+TellsHalt halt told = ⊥
 
 -- a line is told: the status stays where it can't be written, and is that of want of memory where that is wanting
 abbrev pub TellsLine : List ℕ → Status → Written → Written → Status → Type 0

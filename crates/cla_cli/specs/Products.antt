@@ -1,7 +1,7 @@
 -- Values that are computed one by one, and the first cell of those that aren't in range.
 use Rattle.std.specs.Prelude.{◌≡◌, ℕ, ℤ, ◌<◌, ◌≤◌, List, Option, Some, None, ◌⊎◌}
 use Rattle.cla_spec.specs.Numbers.{InRange}
-use Rattle.cla_group.specs.Groups.{at}
+use Rattle.cla_layout.specs.Groups.{at}
 use Rattle.cla_cli.specs.declared.misfit.Misfit.{Misfit}
 
 -- Of the first n exact values, each with the place of its first cell: they are kept where all of them are in range, and else

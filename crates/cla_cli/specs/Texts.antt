@@ -1,5 +1,5 @@
 -- The texts that the program writes.
-use Rattle.std.specs.Prelude.{ℕ, ℤ, pos, List, [], ◌∷◌, ◌++◌, codes}
+use Rattle.std.specs.Prelude.{ℕ, pos, List, ◌++◌, codes}
 use Rattle.cla_spec.specs.Numbers.{decimal_of}
 use Rattle.cla_spec.specs.Effects.{Effect, Out, File}
 use Rattle.cla_num.specs.declared.fault.What.{What}
@@ -12,10 +12,6 @@ use Rattle.cla_check.specs.declared.fault.ShapeKind.{ShapeKind}
 use Rattle.cla_check.specs.declared.fault.ShapeKind.TheVariants as shape
 use Rattle.cla_cli.specs.declared.status.BadKind.{BadKind}
 use Rattle.cla_cli.specs.declared.status.BadKind.TheVariants.{Script, Shape, Unbuilt}
-
--- a number on a line of its own
-abbrev pub number_line : ℤ → List ℕ
-number_line v = decimal_of v ++ 10 ∷ []
 
 abbrev pub memory_line : List ℕ
 memory_line = codes "out of memory\n"

@@ -7,8 +7,8 @@ ghost use Rattle.cla_spec.specs.Matrix.{sum_of_entries};
 ghost use Rattle.cla_num.specs.Bits.{IsSupported};
 ghost use Rattle.cla_num.specs.Counts.{AreBelow, kernel_bound, step_bound, operation_bound};
 ghost use Rattle.cla_num.specs.Fault.{AnswersNumber};
-ghost use Rattle.cla_group.specs.Groups.{cell_of};
-ghost use Rattle.cla_group.proofs.Cells.{occurring};
+ghost use Rattle.cla_layout.specs.Groups.{cell_of};
+ghost use Rattle.cla_layout.proofs.Cells.{occurring};
 ghost use Rattle.cla_cli.specs.First.{Scales, HasMaps, first_place, product_at};
 ghost use Rattle.cla_cli.specs.Products.{Holds};
 
@@ -31,7 +31,7 @@ pub(crate) fn sum_group<N: Number, G: Group<N>>(g: &G, meter: &mut Meter) -> Res
 }
 
 // The number of an exact value.
-fn number_of<N: Number>(exact: Wide) -> Result<N, OpFault>
+pub(crate) fn number_of<N: Number>(exact: Wide) -> Result<N, OpFault>
     requires { IsSupported N.BITS }
     ensures { AnswersNumber N.BITS N.value exact result }
 {

@@ -1,27 +1,15 @@
 //! The lines that the program writes.
 
-ghost use Rattle.std.specs.Prelude.{◌≡◌, ◌≤◌, ◌++◌, IfOk, OnOk, codes, take};
+ghost use Rattle.std.specs.Prelude.{◌≡◌, ◌++◌, IfOk, OnOk, codes};
 ghost use Rattle.cla_spec.specs.Numbers.{decimal_of};
-ghost use Rattle.cla_cli.specs.Texts.{number_line, missing_line, unreadable_line, limit_line, script_line, bad_kind_text, script_kind_text, shape_kind_text, operator_line, reason_text};
+ghost use Rattle.cla_cli.specs.Texts.{missing_line, unreadable_line, limit_line, script_line, bad_kind_text, script_kind_text, shape_kind_text, operator_line, reason_text};
 
 use crate::status::BadKind;
 use cla_check::ShapeKind;
-use cla_num::{Memory, Number, OpFault, What, Wide};
+use cla_num::{Memory, OpFault, What, Wide};
 use cla_script::{Place, ScriptKind};
 use cla_text::Text;
 use std::alloc::Global;
-
-/// Puts the line of a number into the first bytes of `line`, and gives its length.
-pub(crate) fn put_number_line<N: Number>(n: N, line: &mut [u8; 41]) -> usize
-    ensures text { take result line.new ≡ number_line (N.value n) }
-    ensures within { result ≤ 41 }
-{
-    let mut digits = [0u8; 40];
-    let len = n.put(&mut digits);
-    line[..len].copy_from_slice(&digits[..len]);
-    line[len] = b'\n';
-    len + 1
-}
 
 /// The line that tells that a file is absent.
 pub(crate) fn missing_line(alloc: Global, name: &str) -> Result<Text, Memory>

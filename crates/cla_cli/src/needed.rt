@@ -1,13 +1,12 @@
-//! The files that a command needs: its script and its table.
+//! The files that a command needs: its script and its tables.
 
 ghost use Rattle.std.specs.Prelude.{◌≡◌, ◌≤◌, OnOk, IfOk, length};
 ghost use Rattle.cla_io.specs.Reads.{OnlyReads};
 ghost use Rattle.cla_num.specs.Bits.{IsSupported};
 ghost use Rattle.cla_cli.specs.Outcome.{script_limit};
-ghost use Rattle.cla_cli.specs.Needed.{HasUnreadCause, ReadsNoOther, Opens, ReadsText, ReadsScript, ReadsTable};
+ghost use Rattle.cla_cli.specs.Needed.{HasUnreadCause, ReadsNoOther, Opens, ReadsText, ReadsTable};
 
-use crate::script::{SumScript, sum_script_in};
-use crate::unread::{ScriptFault, Unread};
+use crate::unread::{TooLong, Unread};
 use cla_io::{Files, InFault, Input, Stop};
 use cla_mtx::{MtxFault, read_mtx};
 use cla_num::{Dense, Number};
@@ -19,35 +18,12 @@ pub(crate) const SCRIPT_BYTES: u64 = 1 << 20;
 /// How many bytes a table may have.
 const TABLE_BYTES: u64 = 1 << 32;
 
-/// The sum script of this name.
-pub(crate) fn read_script<N: Number, F: Files>(
+/// The whole text of a script.
+pub(crate) fn read_text<F: Files>(
     alloc: Global,
     files: &mut F,
     name: &str,
-) -> Result<SumScript<N>, Unread<ScriptFault>>
-    requires { IsSupported N.BITS }
-    ensures frame { OnlyReads (F.state files.old) (F.state files.new) }
-    ensures cause { HasUnreadCause (F.state files.old) (F.state files.new) result }
-    ensures no_other { ReadsNoOther name.now (F.state files.new).reading }
-    ensures reads { ReadsScript N.BITS (F.state files.old).told name.now result }
-{
-    let text = match read_text(alloc, files, name) {
-        Ok(text) => text,
-        Err(unread) => return Err(unread),
-    };
-    match sum_script_in(alloc, &text) {
-        Ok(Some(script)) => Ok(script),
-        Ok(None) => Err(Unread::Refused(ScriptFault::Form)),
-        Err(_) => Err(Unread::Memory),
-    }
-}
-
-// The whole text of a script.
-fn read_text<F: Files>(
-    alloc: Global,
-    files: &mut F,
-    name: &str,
-) -> Result<Vec<u8>, Unread<ScriptFault>>
+) -> Result<Vec<u8>, Unread<TooLong>>
     ensures frame { OnlyReads (F.state files.old) (F.state files.new) }
     ensures cause { HasUnreadCause (F.state files.old) (F.state files.new) result }
     ensures no_other { ReadsNoOther name.now (F.state files.new).reading }
@@ -63,7 +39,7 @@ fn read_text<F: Files>(
     };
     match input.whole() {
         Ok(text) => Ok(text),
-        Err(InFault::TooLong) => Err(Unread::Refused(ScriptFault::TooLong)),
+        Err(InFault::TooLong) => Err(Unread::Refused(TooLong)),
         Err(InFault::Read) => Err(Unread::Fault),
         Err(InFault::Memory) => Err(Unread::Memory),
     }

@@ -2,11 +2,11 @@
 
 ghost use Rattle.cla_num.specs.Bits.{IsSupported};
 
-use crate::status::{BadKind, Status, code};
+use crate::status::{Status, code};
 use crate::top::run;
 use cla_io::{CallKind, MemFiles, MemSink};
 use cla_num::{Int, Meter, Name, Number, OpFault, What};
-use cla_script::{Place, ScriptKind};
+use cla_script::Place;
 use std::alloc::Global;
 use std::collections::BTreeMap;
 use std::test::Fail;
@@ -31,6 +31,7 @@ struct Came {
 struct World<'a> {
     script: Option<&'a str>,
     table: Option<&'a str>,
+    other: Option<&'a str>,
     failing: Option<(CallKind, u64)>,
     failing_write: Option<u64>,
     failing_line: Option<u64>,
@@ -41,6 +42,7 @@ impl<'a> World<'a> {
         World {
             script: Some(script),
             table: Some(table),
+            other: None,
             failing: None,
             failing_write: None,
             failing_line: None,
@@ -61,6 +63,9 @@ fn ran<N: Number>(alloc: Global, words: &[&str], world: &World) -> Result<Came, 
     }
     if let Some(table) = world.table {
         files.insert(Name::of(alloc, "x.mtx")?, table.as_bytes().to_vec(alloc)?)?;
+    }
+    if let Some(table) = world.other {
+        files.insert(Name::of(alloc, "y.mtx")?, table.as_bytes().to_vec(alloc)?)?;
     }
     let mut fail = Vec::new(alloc);
     if let Some(call) = world.failing {
@@ -158,54 +163,153 @@ fn words(rt: HostRuntime) -> Result<(), Fail> {
     Ok(())
 }
 
+// Scripts over the table of 1 2 and 3 4: what each comes to, the output, and standard error.
+const SCRIPTS: [(&str, u8, &str, &str); 23] = [
+    ("", 0, "", ""),
+    ("# note\n", 0, "", ""),
+    ("X = read(\"x.mtx\")\r\nprint(sum(X))\r\n", 0, "10\n", ""),
+    (
+        "X=read(\"x.mtx\");print(X);print(7)#end\nprint(nrow(X));print(ncol(X))",
+        0,
+        "1 2\n3 4\n7\n2\n2\n",
+        "",
+    ),
+    ("X = read(\"x.mtx\")\nprint((sum((X * 3))))", 0, "30\n", ""),
+    (
+        "X = read(\"x.mtx\")\nprint(X)\nprint(sum(X * 140737488355327))\nprint(1)",
+        9,
+        "1 2\n3 4\n",
+        "operator 3:13: entry (1, 2) is 281474976710654\n",
+    ),
+    ("print(1 +)", 6, "", "script 1:10: Syntax\n"),
+    ("print(X ^ 3)", 6, "", "script 1:11: Exponent\n"),
+    ("print(140737488355328)", 6, "", "script 1:7: Literal\n"),
+    (
+        "X = read(\"x.mtx\")\nprint(Q)",
+        6,
+        "",
+        "script 2:7: Unknown\n",
+    ),
+    (
+        "X = read(\"x.mtx\")\nprint(X[3, ])",
+        6,
+        "",
+        "script 2:8: Bounds\n",
+    ),
+    (
+        "X = read(\"x.mtx\")\nprint(t(1))",
+        6,
+        "",
+        "script 2:7: Operand\n",
+    ),
+    (
+        "X = read(\"x.mtx\")\nprint(1)\nY = X %*% cbind(X, X) %*% X",
+        6,
+        "",
+        "script 3:23: Shapes\n",
+    ),
+    (
+        "write(X, \"x.mtx\")\nX = read(\"x.mtx\")",
+        6,
+        "",
+        "script 1:10: Clash\n",
+    ),
+    (
+        "X = read(\"x.mtx\")\nprint(1)\nprint(t(X))",
+        6,
+        "",
+        "script 1:1: Unbuilt\n",
+    ),
+    (
+        "X = read(\"x.mtx\")\nprint(sum(X * -1))",
+        6,
+        "",
+        "script 1:1: Unbuilt\n",
+    ),
+    (
+        "X = read(\"x.mtx\")\nprint(sum(2 * X))",
+        6,
+        "",
+        "script 1:1: Unbuilt\n",
+    ),
+    (
+        "X = read(\"x.mtx\")\nprint(sum(X + 2))",
+        6,
+        "",
+        "script 1:1: Unbuilt\n",
+    ),
+    ("Y = 1", 6, "", "script 1:1: Unbuilt\n"),
+    ("X = read(\"\")", 6, "", "script 1:10: Text\n"),
+    ("X = read(\"x.mtx\")\r\r\n", 6, "", "script 1:18: Char\n"),
+    (
+        "X = read(\"y.mtx\")\nprint(Q)",
+        3,
+        "",
+        "missing file y.mtx\n",
+    ),
+    ("X = read(\"s\")\nY = read(\"y.mtx\")", 7, "", ""),
+];
+
 #[test]
-fn hostile_scripts(rt: HostRuntime) -> Result<(), Fail> {
-    for (script, status) in [
-        ("X = read(\"x.mtx\")\r\nprint(sum(X))\r\n", 0),
-        ("X = read(\"x.mtx\")\nprint(sum(X))", 0),
-        ("", 6),
-        ("\n", 6),
-        ("X = read(\"x.mtx\")\n", 6),
-        ("X = read(\"x.mtx\")\nprint(sum(X))\n\n", 6),
-        ("X = read(\"x.mtx\")\nprint(sum(Y))\n", 6),
-        ("X = read(\"\")\nprint(sum(X))\n", 6),
-        ("X = read(\"a\"b\")\nprint(sum(X))\n", 6),
-        ("X = read(\"x\t\")\nprint(sum(X))\n", 6),
-        ("X  = read(\"x.mtx\")\nprint(sum(X))\n", 6),
-        ("X = read(\"x.mtx\")\r\r\nprint(sum(X))\n", 6),
-        ("X = read(\"y.mtx\")\nprint(sum(X))\n", 3),
-        ("X = read(\"y.mtx\")\nprint(sum(X * 3))\n", 3),
-        ("X = read(\"x.mtx\")\nprint(sum(X * 3))", 0),
-        ("X = read(\"x.mtx\")\nprint(sum(X * 3))\n\n", 6),
-    ] {
+fn scripts(rt: HostRuntime) -> Result<(), Fail> {
+    for (script, status, out, err) in SCRIPTS {
         let came = ran::<Int<47>>(rt.alloc(), &["run", "s"], &World::of(script, SQUARE))?;
         assert_eq!(rt; came.code, status, "at {script}");
-        assert_eq!(rt; came.out.is_empty(), status != 0, "at {script}");
-        let line = match status {
-            0 => "",
-            3 => "missing file y.mtx\n",
-            _ => "script 1:1: Syntax\n",
-        };
-        assert_eq!(rt; came.err.as_slice(), line.as_bytes(), "at {script}");
+        assert_eq!(rt; came.out.as_slice(), out.as_bytes(), "at {script}");
+        assert_eq!(rt; came.err.as_slice(), err.as_bytes(), "at {script}");
     }
+    Ok(())
+}
+
+// A name stands for the table that was read last, and a table may be read again.
+#[test]
+fn several_tables(rt: HostRuntime) -> Result<(), Fail> {
+    let script = "X = read(\"x.mtx\")\nY = read(\"y.mtx\")\nprint(X)\nX = read(\"y.mtx\")\n\
+        print(sum(X)); print(sum(Y)); print(nrow(X)); Y = read(\"x.mtx\"); print(sum(Y * 2))";
+    let mut world = World::of(script, SQUARE);
+    world.other = Some("%%MatrixMarket matrix array integer general\n3 1\n-1\n-1\n-1\n");
+    let came = ran::<Int<47>>(rt.alloc(), &["run", "s"], &world)?;
+    assert_eq!(rt;
+        came.out.as_slice(),
+        b"1 2\n3 4\n-3\n-3\n3\n20\n".as_slice()
+    );
+    assert_eq!(rt; came.status, Status::Done);
+    assert!(rt; came.err.is_empty());
+    world.other = Some("1 1\n1\n");
+    let came = ran::<Int<47>>(rt.alloc(), &["run", "s"], &world)?;
+    assert_eq!(rt; came.code, 7);
+    assert!(rt; came.out.is_empty());
+    world.table = None;
+    let came = ran::<Int<47>>(rt.alloc(), &["run", "s"], &world)?;
+    assert_eq!(rt; came.err.as_slice(), b"missing file x.mtx\n".as_slice());
+    Ok(())
+}
+
+// A statement of 257 tokens is too long.
+#[test]
+fn a_long_statement(rt: HostRuntime) -> Result<(), Fail> {
+    let mut script = String::from_str(rt.alloc(), "print(1")?;
+    for _ in 0..127 {
+        script.push_str("+1")?;
+    }
+    script.push_str(")\n")?;
+    let came = ran::<Int<47>>(rt.alloc(), &["run", "s"], &World::of(&script, SQUARE))?;
+    assert_eq!(rt; came.code, 6);
+    assert_eq!(rt; came.err.as_slice(), b"script 1:261: Long\n".as_slice());
     Ok(())
 }
 
 #[test]
 fn long_scripts(rt: HostRuntime) -> Result<(), Fail> {
-    let syntax = Status::BadScript {
-        place: Place { line: 1, col: 1 },
-        kind: BadKind::Script(ScriptKind::Syntax),
-    };
     for (len, status, line) in [
-        (1 << 20, syntax, "script 1:1: Syntax\n"),
+        (1 << 20, Status::Done, ""),
         (
             (1 << 20) + 1,
             Status::Limit,
             "limit s: more than 1048576 bytes\n",
         ),
     ] {
-        let script = String::from_utf8(Vec::from_elem(rt.alloc(), b'x', len)?)?;
+        let script = String::from_utf8(Vec::from_elem(rt.alloc(), b'#', len)?)?;
         let came = ran::<Int<47>>(rt.alloc(), &["run", "s"], &World::of(&script, SQUARE))?;
         assert_eq!(rt; came.status, status, "at {len}");
         assert!(rt; came.out.is_empty(), "at {len}");
@@ -282,41 +386,6 @@ fn products(rt: HostRuntime) -> Result<(), Fail> {
 }
 
 #[test]
-fn refused_factors(rt: HostRuntime) -> Result<(), Fail> {
-    for factor in [
-        "X * -1",
-        "X * -0",
-        "X * 03",
-        "X * +3",
-        "X * 140737488355328",
-        "X * 340282366920938463463374607431768211456",
-        "X *3",
-        "X* 3",
-        "X * ",
-        "X * 3 ",
-        "X *  3",
-        "X * x",
-        "2 * X",
-        "Y * 3",
-        "X * 3 * 3",
-    ] {
-        let script = product_script(rt.alloc(), factor)?;
-        let came = ran::<Int<47>>(rt.alloc(), &["run", "s"], &World::of(&script, SQUARE))?;
-        assert_eq!(rt; came.code, 6, "at {factor}");
-        assert!(rt; came.out.is_empty(), "at {factor}");
-        assert_eq!(rt;
-            came.err.as_slice(),
-            b"script 1:1: Syntax\n".as_slice(),
-            "at {factor}"
-        );
-    }
-    let script = product_script(rt.alloc(), "X * 128")?;
-    let came = ran::<Int<7>>(rt.alloc(), &["run", "s"], &World::of(&script, SQUARE))?;
-    assert_eq!(rt; came.code, 6);
-    Ok(())
-}
-
-#[test]
 fn hostile_tables(rt: HostRuntime) -> Result<(), Fail> {
     for (rest, status) in [
         ("1 1\r\n-140737488355327\r\n", 0),
@@ -360,6 +429,7 @@ fn missing_files(rt: HostRuntime) -> Result<(), Fail> {
     let none = World {
         script: None,
         table: Some(SQUARE),
+        other: None,
         failing: None,
         failing_write: None,
         failing_line: None,
@@ -405,17 +475,19 @@ fn failing_reads(rt: HostRuntime) -> Result<(), Fail> {
     Ok(())
 }
 
+// The script prints twice. What was printed before the write that fails stands.
 #[test]
 fn failing_writes(rt: HostRuntime) -> Result<(), Fail> {
-    for (n, status, line) in [
-        (1, Status::WriteFault, "cannot write output\n"),
-        (2, Status::Done, ""),
+    for (n, status, out, line) in [
+        (1, Status::WriteFault, "", "cannot write output\n"),
+        (2, Status::WriteFault, "1 2\n3 4\n", "cannot write output\n"),
+        (3, Status::Done, "1 2\n3 4\n10\n", ""),
     ] {
-        let mut world = World::of(SCRIPT, SQUARE);
+        let mut world = World::of("X = read(\"x.mtx\")\nprint(X); print(sum(X))", SQUARE);
         world.failing_write = Some(n);
         let came = ran::<Int<47>>(rt.alloc(), &["run", "s"], &world)?;
         assert_eq!(rt; came.status, status, "at write {n}");
-        assert_eq!(rt; came.out.is_empty(), n == 1, "at write {n}");
+        assert_eq!(rt; came.out.as_slice(), out.as_bytes(), "at write {n}");
         assert_eq!(rt; came.err.as_slice(), line.as_bytes(), "at write {n}");
     }
     Ok(())

@@ -6,32 +6,26 @@ ghost use Rattle.cla_num.specs.Counts.{AreBelow, run_bound};
 ghost use Rattle.cla_io.specs.Reads.{OnlyReads};
 ghost use Rattle.cla_cli.specs.Words.{accepted_command};
 ghost use Rattle.cla_cli.specs.Run.{ending_of, FaultsCome, MissesCome, EndsWhereTold, Completes, CountsWhereTold, ReadsOnlyNeeded, Keeps, written};
-ghost use Rattle.cla_cli.specs.Parts.{ComesWhereTold, HasEnding, HasCountsWhereTold, IsNeededWhereTold, ReadsAll, TellsUnread, refusal_of_script, refusal_of_table, Prints, Tells, TellsLine};
-ghost use Rattle.cla_cli.specs.declared.unfinished.Unfinished.TheVariants as unfinished;
-ghost use Rattle.cla_cli.specs.Outcome.{Refusal};
+ghost use Rattle.cla_cli.specs.Parts.{ComesWhereTold, HasEnding, HasCountsWhereTold, IsNeededWhereTold, TellsHalt, Tells, TellsLine};
 
-use crate::evaluate::{Failed, evaluate};
-use crate::lines::{
-    limit_line, missing_line, operator_line, put_number_line, script_line, unreadable_line,
-};
-use crate::needed::{SCRIPT_BYTES, read_script, read_table};
-use crate::status::{BadKind, FileFault, Status};
+use crate::inputs::{Inputs, read_inputs};
+use crate::lines::operator_line;
+use crate::statements::{Halted, run_statements};
+use crate::status::Status;
 use crate::unfinished::Unfinished;
-use crate::unread::{ScriptFault, Unread};
 use crate::words::accepted;
 use cla_io::{Files, Sink, Stop, put_all};
-use cla_mtx::MtxFault;
-use cla_num::{Dense, Meter, Number};
-use cla_script::{Place, ScriptKind};
+use cla_num::{Meter, Number};
 use std::alloc::Global;
 
 /// Does all that the program does on these words, the command line's after the program's name.
 ///
-/// Today they are `run SCRIPT`. The script reads one table and prints the sum of its entries, or of
-/// its entries times a number. The checks come in this order, and the first refusal decides: the
-/// words, the script, the table, the product, the sum. What it comes to is `outcome_of` the words
-/// and of what the files hold, unless memory is wanting or a file, the output or standard error
-/// fails. A line on standard error tells why a command isn't done.
+/// Today they are `run SCRIPT`. The script reads tables, and prints numbers, tables, their sums, the
+/// sums of their products with a number, and how many rows and columns they have. The checks come in
+/// this order, and the first refusal decides: the words, the script's text, each table in the order
+/// of its reads, the shapes; then each statement is evaluated and printed in turn. What it comes to
+/// is `outcome_of` the words and of what the files hold, unless memory is wanting or a file, the
+/// output or standard error fails. A line on standard error tells why a command isn't done.
 pub fn run<N: Number, F: Files, O: Sink, E: Sink>(
     alloc: Global,
     words: &[String],
@@ -99,96 +93,29 @@ fn run_script<N: Number, F: Files, O: Sink>(
     ensures steady { O.steady out.new ≡ O.steady out.old }
     ensures kept { O.kept out.old out.new }
 {
-    let (m, factor): (Dense<N>, Option<N>) = match read_inputs(alloc, files, name) {
-        Ok(read) => read,
+    let inputs: Inputs<N> = match read_inputs(alloc, files, name) {
+        Ok(inputs) => inputs,
         Err(unfinished) => return Err(unfinished),
     };
-    match evaluate(alloc, m, factor, meter) {
-        Ok(n) => match print(out, n) {
-            Ok(()) => Ok(()),
-            Err(Stop::Failed) => Err(Unfinished::OutputUnwritten),
-            Err(Stop::Memory) => Err(Unfinished::Memory),
-        },
-        Err(Failed::Operator { place, fault }) => Err(Unfinished::by_refusal(
+    let statements = &inputs.checked.script().statements;
+    match run_statements(alloc, statements, &inputs.tables, out, meter) {
+        Ok(()) => Ok(()),
+        Err(halted) => Err(tell_halt(alloc, halted)),
+    }
+}
+
+// Why the statements ended before the last one.
+fn tell_halt(alloc: Global, halted: Halted) -> Unfinished
+    ensures { TellsHalt halted result }
+{
+    match halted {
+        Halted::Operator { place, fault } => Unfinished::by_refusal(
             Status::Operator { place, fault },
             operator_line(alloc, place, &fault),
-        )),
-        Err(Failed::Memory) => Err(Unfinished::Memory),
+        ),
+        Halted::Unwritten => Unfinished::OutputUnwritten,
+        Halted::Memory => Unfinished::Memory,
     }
-}
-
-// The matrix of the table that the script reads, and the script's number.
-fn read_inputs<N: Number, F: Files>(
-    alloc: Global,
-    files: &mut F,
-    name: &str,
-) -> Result<(Dense<N>, Option<N>), Unfinished>
-    requires { IsSupported N.BITS }
-    ensures frame { OnlyReads (F.state files.old) (F.state files.new) }
-    ensures ending { HasEnding (F.state files.old) (F.state files.new) 0 0 result }
-    ensures needed { IsNeededWhereTold N.BITS name.now (F.state files.old).told (F.state files.new).reading }
-    ensures reads { ReadsAll N.value N.BITS (F.state files.old).told name.now result }
-{
-    let script = match read_script(alloc, files, name) {
-        Ok(script) => script,
-        Err(unread) => return Err(tell_script(alloc, name, unread)),
-    };
-    match read_table(alloc, files, script.table()) {
-        Ok(m) => Ok((m, script.factor())),
-        Err(unread) => Err(tell_table(alloc, script.table(), unread)),
-    }
-}
-
-// Why the script of this name isn't read.
-fn tell_script(alloc: Global, name: &str, unread: Unread<ScriptFault>) -> Unfinished
-    ensures { TellsUnread (refusal_of_script name.now) name.now unread result }
-{
-    match unread {
-        Unread::Missing => Unfinished::by_refusal(Status::Missing, missing_line(alloc, name)),
-        Unread::Fault => Unfinished::by_read_fault(unreadable_line(alloc, name)),
-        Unread::Memory => Unfinished::Memory,
-        Unread::Refused(ScriptFault::TooLong) => {
-            Unfinished::by_refusal(Status::Limit, limit_line(alloc, name, SCRIPT_BYTES))
-        }
-        Unread::Refused(ScriptFault::Form) => {
-            let place = Place { line: 1, col: 1 };
-            let kind = BadKind::Script(ScriptKind::Syntax);
-            Unfinished::by_refusal(
-                Status::BadScript { place, kind },
-                script_line(alloc, place, kind),
-            )
-        }
-    }
-}
-
-// Why the table of this name isn't read.
-fn tell_table(alloc: Global, name: &str, unread: Unread<MtxFault>) -> Unfinished
-    ensures { TellsUnread refusal_of_table name.now unread result }
-{
-    match unread {
-        Unread::Missing => Unfinished::by_refusal(Status::Missing, missing_line(alloc, name)),
-        Unread::Fault => Unfinished::by_read_fault(unreadable_line(alloc, name)),
-        Unread::Memory => Unfinished::Memory,
-        Unread::Refused(fault) => Unfinished::Refused {
-            status: Status::BadFile {
-                fault: FileFault::Mtx(fault),
-            },
-            line: None,
-        },
-    }
-}
-
-// Prints a number on a line of its own.
-fn print<N: Number, O: Sink>(out: &mut O, n: N) -> Result<(), Stop>
-    ensures prints { Prints (N.value n)
-        (written (O.told out.old) (O.faults out.old)) (written (O.told out.new) (O.faults out.new)) result }
-    ensures later { O.faults out.old ≤ O.faults out.new }
-    ensures steady { O.steady out.new ≡ O.steady out.old }
-    ensures kept { O.kept out.old out.new }
-{
-    let mut line = [0u8; 41];
-    let len = put_number_line(n, &mut line);
-    put_all(out, &line[..len])
 }
 
 // Tells why a command isn't done.

@@ -10,9 +10,6 @@ pub(crate) enum Unread<R> {
     Refused(R),
 }
 
-/// A script is refused: it is longer than its limit, or isn't of the form that runs.
+/// A script is longer than its limit.
 #[derive(Clone, Copy, Debug)]
-pub(crate) enum ScriptFault {
-    TooLong,
-    Form,
-}
+pub(crate) struct TooLong;

@@ -159,64 +159,21 @@ fn first_faults_of_shapes(rt: HostRuntime) -> Result<(), Fail> {
 
 #[test]
 fn results_of_2_to_the_26_cells_and_more(rt: HostRuntime) -> Result<(), Fail> {
-    let column = Shape {
-        rows: 67108864,
-        cols: 1,
-    };
-    let row = Shape {
-        rows: 1,
-        cols: 67108864,
-    };
-    let pair = Shape { rows: 1, cols: 2 };
+    let column = shape(67108864, 1);
+    let row = shape(1, 67108864);
+    let pair = shape(1, 2);
     let table = [
         ("print(t(X))", column, pair, None),
+        ("print(X %*% Y)", column, pair, too_large(2, 9)),
+        ("print(rbind(X, X))", column, pair, too_large(2, 7)),
+        ("print(cbind(X, X))", column, pair, too_large(2, 7)),
+        ("print(cbind(Y, X))", row, pair, too_large(2, 7)),
+        ("print(X %*% Y)", shape(8192, 1), shape(1, 8192), None),
         (
             "print(X %*% Y)",
-            column,
-            pair,
-            Some((ShapeKind::TooLarge, 2, 9)),
-        ),
-        (
-            "print(rbind(X, X))",
-            column,
-            pair,
-            Some((ShapeKind::TooLarge, 2, 7)),
-        ),
-        (
-            "print(cbind(X, X))",
-            column,
-            pair,
-            Some((ShapeKind::TooLarge, 2, 7)),
-        ),
-        (
-            "print(cbind(Y, X))",
-            row,
-            pair,
-            Some((ShapeKind::TooLarge, 2, 7)),
-        ),
-        (
-            "print(X %*% Y)",
-            Shape {
-                rows: 8192,
-                cols: 1,
-            },
-            Shape {
-                rows: 1,
-                cols: 8192,
-            },
-            None,
-        ),
-        (
-            "print(X %*% Y)",
-            Shape {
-                rows: 8192,
-                cols: 1,
-            },
-            Shape {
-                rows: 1,
-                cols: 8193,
-            },
-            Some((ShapeKind::TooLarge, 2, 9)),
+            shape(8192, 1),
+            shape(1, 8193),
+            too_large(2, 9),
         ),
     ];
     for (text, x, y, want) in table {
@@ -227,6 +184,14 @@ fn results_of_2_to_the_26_cells_and_more(rt: HostRuntime) -> Result<(), Fail> {
         assert_eq!(rt; fault, want, "{text}");
     }
     Ok(())
+}
+
+fn shape(rows: u32, cols: u32) -> Shape {
+    Shape { rows, cols }
+}
+
+fn too_large(line: u32, col: u32) -> Option<(ShapeKind, u32, u32)> {
+    Some((ShapeKind::TooLarge, line, col))
 }
 
 fn in_limits(s: Shape) -> bool

@@ -1,11 +1,10 @@
 -- Worked examples of the definitions, computed.
-use Rattle.std.specs.Prelude.{◌≡◌, ℕ, pos, negsuc, List, [], ◌∷◌, ◌++◌, codes, Some, None, refl}
+use Rattle.std.specs.Prelude.{◌≡◌, ℕ, pos, negsuc, List, [], ◌∷◌, ◌++◌, codes, Some, refl}
 use Rattle.std.specs.Fmt.{digits}
 use Rattle.cla_spec.specs.Numbers.{decimal_of}
 use Rattle.cla_spec.specs.Matrix.{exact_sum}
 use Rattle.cla_spec.specs.Lines.{lines_of}
 use Rattle.cla_spec.specs.ArrayFile.{array_in}
-use Rattle.cla_spec.specs.SumScript.{sum_script_in}
 
 abbrev lf : List ℕ
 lf = 10 ∷ []
@@ -13,23 +12,9 @@ lf = 10 ∷ []
 abbrev pub square : List ℕ
 square = codes "%%MatrixMarket matrix array integer general" ++ lf ++ codes "2 2" ++ lf ++ codes "1" ++ lf ++ codes "3" ++ lf ++ codes "2" ++ lf ++ codes "4" ++ lf
 
-abbrev pub script : List ℕ
-script = codes "X = read(" ++ 34 ∷ codes "x.mtx" ++ 34 ∷ codes ")" ++ lf ++ codes "print(sum(X))" ++ lf
-
-abbrev pub product : List ℕ
-product = codes "X = read(" ++ 34 ∷ codes "x.mtx" ++ 34 ∷ codes ")" ++ lf ++ codes "print(sum(X * 3))" ++ lf
-
 pub square_is_read : array_in 47 1000 square ≡ Some (record { rows = 2; cols = 2; cells = pos 1 ∷ pos 2 ∷ pos 3 ∷ pos 4 ∷ [] })
 unfolding array_in lines_of digits
 square_is_read = refl
-
-pub script_is_read : sum_script_in 47 1000 script ≡ Some (record { table = codes "x.mtx"; factor = None })
-unfolding sum_script_in lines_of
-script_is_read = refl
-
-pub product_is_read : sum_script_in 47 1000 product ≡ Some (record { table = codes "x.mtx"; factor = Some 3 })
-unfolding sum_script_in lines_of digits
-product_is_read = refl
 
 pub sum_is : exact_sum (record { rows = 2; cols = 2; cells = pos 1 ∷ pos 2 ∷ pos 3 ∷ pos 4 ∷ [] }) ≡ pos 10
 sum_is = refl

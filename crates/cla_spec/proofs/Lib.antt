@@ -2,6 +2,5 @@ pub mod Examples
 pub mod LineLemmas
 pub mod Decimals
 pub mod ArrayFileLaws
-pub mod SumScriptLaws
 pub mod Sums
 pub mod Entries

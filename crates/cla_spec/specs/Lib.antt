@@ -2,6 +2,5 @@ pub mod Numbers
 pub mod Matrix
 pub mod Lines
 pub mod ArrayFile
-pub mod SumScript
 pub mod Files
 pub mod Effects

@@ -3,14 +3,8 @@
 #![tactic(auto)]
 
 ghost use Rattle.cla_spec.specs.ArrayFile.{ArrayFilesAreFound};
-ghost use Rattle.cla_spec.specs.SumScript.{SumScriptsAreFound};
 
 /// A text is the array file of one matrix at most, and `array_in` finds it exactly where there is one.
 pub fn array_files_are_found()
     ensures { ArrayFilesAreFound }
-{}
-
-/// A text is one sum script at most, and `sum_script_in` finds it exactly where there is one.
-pub fn sum_scripts_are_found()
-    ensures { SumScriptsAreFound }
 {}

@@ -1,6 +1,6 @@
 use Rattle.std.proofs.Common.{◌≤◌, length, arith}
 use Rattle.std.proofs.Math.Nat.{mul-le-mul_right}
-use Rattle.cla_group.proofs.Cells.{values_few}
+use Rattle.cla_layout.proofs.Cells.{values_few}
 use Rattle.cla_cli.proofs.first.scale_values.Goals as goal
 
 pub scale_tuple-first-requires-clause-room : goal.scale_tuple-first-requires-clause-room

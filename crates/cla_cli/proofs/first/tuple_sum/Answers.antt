@@ -1,7 +1,7 @@
 use Rattle.std.proofs.Common.{suc, arith}
 use Rattle.cla_num.proofs.Sizes.{fits_by_size}
-use Rattle.cla_group.proofs.Bounds.{width_few}
-use Rattle.cla_group.proofs.Cells.{occurring_size, tuple_sum_size}
+use Rattle.cla_layout.proofs.Bounds.{width_few}
+use Rattle.cla_layout.proofs.Cells.{occurring_size, tuple_sum_size}
 use Rattle.cla_cli.proofs.first.tuple_sum.Goals as goal
 
 pub times-requires-clause-fits : goal.times-requires-clause-fits

@@ -1,6 +1,6 @@
 use Rattle.std.proofs.Common.{◌≡◌, ◌+◌}
 use Rattle.cla_spec.specs.Numbers.{sum_to}
-use Rattle.cla_group.proofs.Cells.{occurring}
+use Rattle.cla_layout.proofs.Cells.{occurring}
 use Rattle.cla_cli.proofs.first.tuple_sum.Given as goal
 
 -- the sum of the values before place c, each counted

@@ -26,6 +26,6 @@ returns-in-Err-TooLong-clause-reads g c =
     let made = c.in-Ok-new.ensures in
     let read = c.in-Err-TooLong.ensures in
     text_too_long old.told opened.told opened.reading c.args.name.now c.in-Ok-new.input.taken new.taken
-    (ahead_of new.taken (left (g.F.Files.state new.files.now)))
+    (ahead_of new.taken (left (g.F.Files.state new.files.now))) _
     c.open.ensures.frame.told c.in-Ok.ensures.opens made.nothing_taken read.limit
     (rw (made.same, c.in-Err-TooLong.field-0-is) at read.whole)
