@@ -1,4 +1,5 @@
 pub mod Growth
 pub mod TakenLines
+pub mod WindowLaws
+pub mod GatherLaws
 pub mod MemMap
-pub mod StepLaws

@@ -1,7 +1,7 @@
--- A line that is taken of the bytes that are held is the next line of the file.
-use Rattle.std.proofs.Common.{◌≡◌, ℕ, not, subst, inl, inr, ◌+◌, ◌<◌, ◌≤◌, List, [], ◌++◌, length, take, drop, Option, Some, None, Bool, true, false, Result, Ok, Err, refl, ap, sym, ◌∙◌, arith, length-drop, length-append}
-use Rattle.std.proofs.lemmas.Bool.{false_from_ne_true, cases_lt, ne_eqb, eq-eqb}
-use Rattle.std.proofs.lemmas.List.{append-nil, nil_from_length, drop-append-le, take-append-le}
+-- The end of a line among bytes, and a line that is taken of those that are held.
+use Rattle.std.proofs.Common.{◌≡◌, ℕ, not, ◌+◌, ◌-◌, ◌<◌, ◌≤◌, List, ◌++◌, length, take, drop, take-take, slice_range, Option, Some, None, Bool, true, false, Result, Ok, Err, refl, ap, sym, ◌∙◌, arith, length-drop, length-append, length-take}
+use Rattle.std.proofs.lemmas.Bool.{false_from_ne_true, ne_eqb}
+use Rattle.std.proofs.lemmas.List.{nil_from_length, drop-append-le, take-append-le, length-take-le}
 use Rattle.std.proofs.lemmas.List.Folds.{prefix_len-append}
 use Rattle.std.proofs.lemmas.List.Sums.{position_or_len_is}
 use Rattle.std.specs.List.{position_or_len}
@@ -9,9 +9,7 @@ use Rattle.memchr.specs.Find.{IsFirstByte, is_byte}
 use Rattle.cla_spec.specs.Lines.{is_lf, without_cr, first_line, after_line}
 use Rattle.cla_io.specs.declared.stop.InFault.{InFault}
 use Rattle.cla_io.specs.declared.stop.InFault.TheVariants.{Read, TooLong, Memory}
-use Rattle.cla_io.specs.Lines.{Progress, IsLfPlace, EndsAt, TakesLine, TakesLineWhereTold, SameContent, IsAllRead, IsOther, ahead_of, line_width}
-use Rattle.cla_spec.specs.Files.{Told}
-use Rattle.cla_io.specs.State.{Reading, left_where_told}
+use Rattle.cla_io.specs.Lines.{Progress, IsLfPlace, EndsAt, TakesLine, TakesLineWhereTold, ahead_of}
 
 -- what a search for LF finds is the place of the next one
 pub lf_found : (bytes : List ℕ) (r : Option ℕ) → IsFirstByte (is_byte 10) bytes r → IsLfPlace bytes r
@@ -22,7 +20,7 @@ line_at : (bytes : List ℕ) (k : ℕ) → position_or_len is_lf bytes ≡ k →
 unfolding first_line
 line_at bytes k h = rw h refl
 
-rest_at : (bytes : List ℕ) (k : ℕ) → position_or_len is_lf bytes ≡ k → after_line bytes ≡ drop (k + 1) bytes
+pub rest_at : (bytes : List ℕ) (k : ℕ) → position_or_len is_lf bytes ≡ k → after_line bytes ≡ drop (k + 1) bytes
 unfolding after_line
 rest_at bytes k h = rw h refl
 
@@ -51,92 +49,41 @@ ends_at_end bytes h = record {
   all = λ e. nil_from_length bytes e;
 }
 
+-- the first bytes of the first bytes
+take_fewer : (r k : ℕ) (xs : List ℕ) → r ≤ k → take r (take k xs) ≡ take r xs
+take_fewer r k xs le = rw take-take (ap (λ (n : ℕ). take n xs) (omega arith))
+
 -- an LF among the first bytes is the next one of all of them
-found_on : (xs ys : List ℕ) → position_or_len is_lf xs < length xs → position_or_len is_lf (xs ++ ys) ≡ position_or_len is_lf xs
-found_on xs ys h = prefix_len-append (λ b. not (is_lf b)) xs ys ∙ rw (ne_eqb (position_or_len is_lf xs) (length xs) (λ e. omega (arith, e, h))) refl
+found_on : (xs ys : List ℕ) (k : ℕ) → k < length xs → position_or_len is_lf xs ≡ k → position_or_len is_lf (xs ++ ys) ≡ k
+found_on xs ys k lt place = prefix_len-append (λ b. not (is_lf b)) xs ys ∙ rw (ne_eqb (position_or_len is_lf xs) (length xs) (λ e. omega (arith, e, lt, place))) place
 
--- where the first bytes have no LF, the first line takes them all
-width_behind : (xs ys : List ℕ) → position_or_len is_lf xs ≡ length xs → length xs ≤ line_width (xs ++ ys)
-width_behind xs ys h =
-    let place : position_or_len is_lf (xs ++ ys) ≡ length xs + position_or_len is_lf ys = prefix_len-append (λ b. not (is_lf b)) xs ys ∙ rw (eq-eqb (position_or_len is_lf xs) (length xs) h) refl in
-    rw (rest_at (xs ++ ys) (length xs + position_or_len is_lf ys) place) (omega (arith, length-drop (length xs + position_or_len is_lf ys + 1) (xs ++ ys), length-append xs ys))
-
--- a line that was found among the first bytes is the first line of all of them
-found_whole : (old mid new : Progress) (xs rest ys : List ℕ) (k : ℕ) (result : Result Bool InFault) → mid.at ≡ old.at → k < length xs → position_or_len is_lf xs ≡ k → TakesLine mid new xs rest result → TakesLine old new (xs ++ ys) (rest ++ ys) result
-found_whole old mid new xs rest ys k (Ok true) same_at lt place t =
-    let some : position_or_len is_lf xs < length xs = rw place lt in
-    let whole = ends_at_lf (xs ++ ys) k (omega (arith, length-append xs ys)) (found_on xs ys some ∙ place) in
+-- a line that is held is the next line of the file
+held_whole : (old new : Progress) (xs rest ys : List ℕ) (k : ℕ) (result : Result Bool InFault) → k < length xs → position_or_len is_lf xs ≡ k → TakesLine old new xs rest result → TakesLine old new (xs ++ ys) (rest ++ ys) result
+held_whole old new xs rest ys k (Ok true) lt place t =
+    let whole = ends_at_lf (xs ++ ys) k (omega (arith, length-append xs ys)) (found_on xs ys k lt place) in
     let part = ends_at_lf xs k lt place in
     let later : k + 1 ≤ length xs = omega arith in
-    (omega (arith, length-append xs ys), t.1 ∙ part.line ∙ ap without_cr (sym (take-append-le k xs ys (omega arith))) ∙ sym whole.line, ap (λ (r : List ℕ). r ++ ys) (t.2 ∙ part.rest) ∙ sym (drop-append-le (k + 1) xs ys later) ∙ sym whole.rest, t.3 ∙ omega (arith, same_at, part.is_width, whole.is_width), t.4)
-found_whole old mid new xs rest ys k (Ok false) same_at lt place t = absurd (omega (arith, lt, ap (λ (r : List ℕ). length r) t.0))
-found_whole old mid new xs rest ys k (Err TooLong) same_at lt place t =
-    let some : position_or_len is_lf xs < length xs = rw place lt in
-    let whole = ends_at_lf (xs ++ ys) k (omega (arith, length-append xs ys)) (found_on xs ys some ∙ place) in
+    (omega (arith, length-append xs ys), t.1 ∙ part.line ∙ ap without_cr (sym (take-append-le k xs ys (omega arith))) ∙ sym whole.line, ap (λ (r : List ℕ). r ++ ys) (t.2 ∙ part.rest) ∙ sym (drop-append-le (k + 1) xs ys later) ∙ sym whole.rest, t.3 ∙ omega (arith, part.is_width, whole.is_width), t.4)
+held_whole old new xs rest ys k (Ok false) lt place t = absurd (omega (arith, lt, ap (λ (r : List ℕ). length r) t.0))
+held_whole old new xs rest ys k (Err TooLong) lt place t =
+    let whole = ends_at_lf (xs ++ ys) k (omega (arith, length-append xs ys)) (found_on xs ys k lt place) in
     let part = ends_at_lf xs k lt place in
-    omega (arith, t, same_at, part.is_width, whole.is_width)
-found_whole old mid new xs rest ys k (Err Read) same_at lt place t = tt
-found_whole old mid new xs rest ys k (Err Memory) same_at lt place t = tt
+    omega (arith, t, part.is_width, whole.is_width)
+held_whole old new xs rest ys k (Err Read) lt place t = tt
+held_whole old new xs rest ys k (Err Memory) lt place t = tt
 
--- the last line, of which no more than the bytes that are held is there
-last_whole : (old mid new : Progress) (xs rest : List ℕ) (result : Result Bool InFault) → mid.at ≡ old.at → TakesLine mid new xs rest result → TakesLine old new xs rest result
-last_whole old mid new xs rest (Ok true) same_at t = (t.0, t.1, t.2, t.3 ∙ omega (arith, same_at), t.4)
-last_whole old mid new xs rest (Ok false) same_at t = (t.0, t.1, t.2 ∙ same_at, t.3)
-last_whole old mid new xs rest (Err TooLong) same_at t = omega (arith, t, same_at)
-last_whole old mid new xs rest (Err Read) same_at t = tt
-last_whole old mid new xs rest (Err Memory) same_at t = tt
+pub takes_held : (old new : Progress) (left : Option (List ℕ)) (k : ℕ) (result : Result Bool InFault) → IsLfPlace old.ahead (Some k) → TakesLine old new old.ahead new.ahead result → TakesLineWhereTold old new (ahead_of old left) (ahead_of new left) result
+takes_held old new None k result place t = refl
+takes_held old new (Some ys) k result place t = held_whole old new old.ahead new.ahead ys k result place.0 place.1 t
 
--- a line that reaches past the limit
-past_whole : (old mid new : Progress) (xs rest after ys : List ℕ) (result : Result Bool InFault) → mid.at ≡ old.at → mid.limit ≡ new.limit → position_or_len is_lf xs ≡ length xs → mid.limit < mid.at + length xs → TakesLine mid new xs rest result → TakesLine old new (xs ++ ys) after result
-past_whole old mid new xs rest after ys (Ok true) same_at same_limit place past t = absurd (omega (arith, (ends_at_end xs place).is_width, t.3, t.4))
-past_whole old mid new xs rest after ys (Ok false) same_at same_limit place past t = absurd (omega (arith, ap (λ (r : List ℕ). length r) t.0, t.2, t.3))
-past_whole old mid new xs rest after ys (Err TooLong) same_at same_limit place past t = omega (arith, width_behind xs ys place)
-past_whole old mid new xs rest after ys (Err Read) same_at same_limit place past t = tt
-past_whole old mid new xs rest after ys (Err Memory) same_at same_limit place past t = tt
-
-subst2 : (P : List ℕ → List ℕ → Type 0) {a b c d : List ℕ} → a ≡ b → c ≡ d → P a c → P b d
-subst2 P {a} {b} {c} {d} e f h = subst (λ (x : List ℕ). P x d) e (subst (λ (x : List ℕ). P a x) f h)
-
-no_more : (xs ys : List ℕ) → ys ≡ [] → xs ≡ xs ++ ys
-no_more xs ys h = rw (h, append-nil xs) refl
-
-held_whole : (old mid new : Progress) (xs rest ys : List ℕ) (lf : Option ℕ) (result : Result Bool InFault)
-    → mid.at ≡ old.at → mid.limit ≡ new.limit → IsLfPlace xs lf → (lf ≡ None → mid.at + length xs ≤ mid.limit → ys ≡ [])
-    → TakesLine mid new xs rest result → TakesLine old new (xs ++ ys) (rest ++ ys) result
-held_whole old mid new xs rest ys (Some k) result same_at same_limit place all t = found_whole old mid new xs rest ys k result same_at place.0 place.1 t
-held_whole old mid new xs rest ys None result same_at same_limit place all t = elim (cases_lt mid.limit (mid.at + length xs)) [
-  | inl past ↦ past_whole old mid new xs rest (rest ++ ys) ys result same_at same_limit place past t
-  | inr short ↦
-      let none = all refl short in
-      subst2 (λ (b a : List ℕ). TakesLine old new b a result) (no_more xs ys none) (no_more rest ys none) (last_whole old mid new xs rest result same_at t)
-]
-
--- the line that is taken of the bytes that are held is the next line of the file
-pub takes_whole : (old mid new : Progress) (left left' : Option (List ℕ)) (lf : Option ℕ) (result : Result Bool InFault)
-    → mid.at ≡ old.at → mid.limit ≡ new.limit → SameContent old mid left left'
-    → mid.at ≤ length mid.held → IsLfPlace (drop mid.at mid.held) lf
-    → (lf ≡ None → length mid.held ≤ mid.limit → IsAllRead left')
-    → new.held ≡ mid.held → new.at ≤ length new.held
-    → TakesLine mid new (drop mid.at mid.held) (drop new.at mid.held) result
-    → TakesLineWhereTold old new (ahead_of old left) (ahead_of new left') result
-takes_whole old mid new None left' lf result same_at same_limit content within place all held new_within t = rw content refl
-takes_whole old mid new (Some l) None lf result same_at same_limit content within place all held new_within t = absurd content
-takes_whole old mid new (Some l) (Some l') lf result same_at same_limit content within place all held new_within t =
-    let before : drop mid.at mid.held ++ l' ≡ drop old.at (old.held ++ l) = sym (drop-append-le mid.at mid.held l' within) ∙ rw (same_at, content) refl in
-    let still : new.at ≤ length mid.held = rw held at new_within in
-    let after : drop new.at mid.held ++ l' ≡ drop new.at (new.held ++ l') = sym (drop-append-le new.at mid.held l' still) ∙ rw held refl in
-    subst2 (λ (b a : List ℕ). TakesLine old new b a result) before after
-    (held_whole old mid new (drop mid.at mid.held) (drop new.at mid.held) l' lf result same_at same_limit place
-    (λ none short. all none (omega (arith, short, length-drop mid.at mid.held))) t)
-
-pub same_content : (p : Progress) (left : Option (List ℕ)) → SameContent p p left left
-same_content p None = refl
-same_content p (Some bytes) = refl
-
--- after a fault of reading, what is told is still told
-pub takes_none : (old new : Progress) (told told' : Option Told) (reading reading' : Option Reading) (fault : InFault) → told' ≡ told → IsOther fault
-    → TakesLineWhereTold old new (ahead_of old (left_where_told told reading)) (ahead_of new (left_where_told told' reading')) (Err fault)
-takes_none old new None told' reading reading' fault same h = rw same refl
-takes_none old new (Some t) told' reading reading' TooLong same h = absurd h
-takes_none old new (Some t) told' reading reading' Read same h = rw same tt
-takes_none old new (Some t) told' reading reading' Memory same h = rw same tt
+-- the line among the bytes that are held
+pub line_held : (bytes : List ℕ) (start end k r : ℕ) → k < length (slice_range bytes start end) → position_or_len is_lf (slice_range bytes start end) ≡ k
+    → take r (take k (slice_range bytes start end)) ≡ without_cr (take k (slice_range bytes start end)) → r ≤ length (take k (slice_range bytes start end))
+    → take (start + r - start) (drop start bytes) ≡ first_line (slice_range bytes start end)
+line_held bytes start end k r lt place is within =
+    let held = slice_range bytes start end in
+    let few : r ≤ k = omega (arith, length-take-le k held (omega (arith, lt))) in
+    let wide : r ≤ end - start = omega (arith, few, lt, length-take (end - start) (drop start bytes)) in
+    let width : start + r - start ≡ r = omega arith in
+    let e = ends_at_lf held k lt place in
+    rw width (sym (take_fewer r (end - start) (drop start bytes) wide) ∙ sym (take_fewer r k held few) ∙ is ∙ sym e.line)

@@ -15,8 +15,10 @@ name_read (Some r) = Some r.name
 -- nothing but the place in the file and faults of reading changed
 pub record ReadsOn (old new : State) : Type 0 where
   pub told : new.told ≡ old.told
+  pub writing : new.writing ≡ old.writing
   pub steady : new.steady ≡ old.steady
   pub read_faults : old.read_faults ≤ new.read_faults
+  pub write_faults : new.write_faults ≡ old.write_faults
   pub misses : new.misses ≡ old.misses
   pub open_still : IsSome new.reading
   pub same_file : name_read new.reading ≡ name_read old.reading

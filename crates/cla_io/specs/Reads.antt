@@ -9,8 +9,10 @@ use Rattle.cla_io.specs.declared.stop.Stop.{Stop}
 -- nothing but the file that is being read and counts of reading changed
 pub record OnlyReads (old new : State) : Type 0 where
   pub told : new.told ≡ old.told
+  pub writing : new.writing ≡ old.writing
   pub steady : new.steady ≡ old.steady
   pub read_faults : old.read_faults ≤ new.read_faults
+  pub write_faults : new.write_faults ≡ old.write_faults
   pub misses : old.misses ≤ new.misses
 
 -- a name is there, and one is absent, where that is told

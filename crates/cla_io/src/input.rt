@@ -1,13 +1,12 @@
 //! A file that is read line by line.
 
-ghost use Rattle.std.specs.Prelude.{◌≡◌, ◌<◌, ◌≤◌, ◌^◌, [], false, length, IsSome, IsOk, IfOk, OnOk};
-ghost use Rattle.std.specs.Bool.{OnTrue};
+ghost use Rattle.std.specs.Prelude.{◌≡◌, ◌+◌, ◌<◌, ◌≤◌, ◌^◌, [], false, true, Ok, Some, IsSome, IsOk, IfOk, OnOk};
 ghost use Rattle.cla_io.specs.State.{left};
-ghost use Rattle.cla_io.specs.Lines.{TakesLineWhereTold, CountsLine, TakesWholeWhereTold, CountsWhole, InCause, OnlyHolds, SameContent, IsAllRead, IsNotTooLong, ahead_of, line_number_of};
+ghost use Rattle.cla_io.specs.Lines.{TakesLine, TakesLineWhereTold, IsLfPlace, CountsLine, TakesWholeWhereTold, CountsWhole, InCause, ahead_of, line_number_of, line_width};
 ghost use Rattle.cla_io.specs.InputFrame.{ReadsOn, IsAtStart};
 
 use crate::files::Files;
-use crate::stop::{InFault, Stop};
+use crate::stop::InFault;
 use crate::taken::Taken;
 use cla_num::Memory;
 use std::alloc::Global;
@@ -34,8 +33,8 @@ impl<F: Files, B: Drop> Drop for InputOver<'_, F, B> {
 
 impl<'a, F: Files> InputOver<'a, F, Taken> {
     /// The input of the file that is being read, from its first byte. At most `limit` bytes are
-    /// taken of it, from 8 to 2^32. It takes no memory yet, and so succeeds; a caller would know
-    /// nothing of its files after an error.
+    /// taken of it, from 8 to 2^32. It takes its buffer of 65,536 bytes at its first read, and so
+    /// succeeds; a caller would know nothing of its files after an error.
     pub fn new(alloc: Global, files: &'a mut F, limit: u64) -> Result<Input<'a, F>, Memory>
         requires start { IsAtStart (F.state files.old).reading }
         requires least { 8 ≤ limit }
@@ -43,7 +42,7 @@ impl<'a, F: Files> InputOver<'a, F, Taken> {
         ensures succeeds { IsOk result }
         ensures same_reference { IfOk result (λ input. input.files.ghost_name ≡ files.entry.ghost_name) }
         ensures same { IfOk result (λ input. input.files.now ≡ files.old) }
-        ensures nothing_taken { IfOk result (λ input. input.taken ≡ record { held = []; at = 0; limit = limit; line = []; lines = 0; ended = false }) }
+        ensures nothing_taken { IfOk result (λ input. input.taken ≡ record { ahead = []; at = 0; limit = limit; line = []; lines = 0; ended = false }) }
     {
         Ok(InputOver {
             files,
@@ -53,7 +52,8 @@ impl<'a, F: Files> InputOver<'a, F, Taken> {
 
     /// Takes the next line. `false` says that the file ends here. `TooLong` comes exactly where the
     /// line reaches past the limit, and `Read` only where faults of reading rose. An error takes
-    /// nothing.
+    /// nothing. It holds no more than its buffer and, of lines that cross the buffer's end, the one
+    /// that was taken last and the next.
     pub fn next_line(&mut self) -> Result<bool, InFault>
         ensures same_reference { self.new.files.ghost_name ≡ self.old.files.ghost_name }
         ensures frame { ReadsOn (F.state self.old.files.now) (F.state self.new.files.now) }
@@ -62,17 +62,42 @@ impl<'a, F: Files> InputOver<'a, F, Taken> {
         ensures line { TakesLineWhereTold self.old.taken self.new.taken (ahead_of self.old.taken (left (F.state self.old.files.now))) (ahead_of self.new.taken (left (F.state self.new.files.now))) result }
         ensures in_limit { OnOk result (self.new.taken.at ≤ self.new.taken.limit) }
         ensures count { CountsLine self.old.taken self.new.taken result }
+        ensures few { self.new.taken.lines ≤ self.new.taken.limit }
     {
-        let lf = self.taken.lf_ahead();
-        if lf.is_some() {
-            return self.taken.take_line(lf);
+        match self.taken.lf_ahead() {
+            Some(place) => self.taken.take_held(place),
+            None => self.taken.take_far(self.files),
         }
-        match load(self.files, &mut self.taken) {
-            Ok(()) => (),
-            Err(fault) => return Err(fault),
-        }
-        let lf = self.taken.lf_ahead();
-        self.taken.take_line(lf)
+    }
+
+    /// The bytes that are held and weren't taken: none at the start, and never all but the last of a
+    /// great file. A caller that finds the end of the next line among them takes it by
+    /// [`InputOver::take_ahead`].
+    #[inline(always)]
+    pub fn ahead(&self) -> &[u8]
+        ensures { result.now ≡ self.now.taken.ahead }
+    {
+        self.taken.ahead()
+    }
+
+    /// Takes the next line, which ends at the first LF ahead, at this place: as `next_line` does where
+    /// that gives `true`, without a search. `false` says that the line reaches past the limit, and takes
+    /// nothing.
+    #[inline(always)]
+    pub fn take_ahead(&mut self, place: usize) -> bool
+        requires { IsLfPlace self.old.taken.ahead (Some place) }
+        ensures same_reference { self.new.files.ghost_name ≡ self.old.files.ghost_name }
+        ensures same_files { self.new.files.now ≡ self.old.files.now }
+        ensures limit { self.new.taken.limit ≡ self.old.taken.limit }
+        ensures same { result ≡ false → self.new.taken ≡ self.old.taken }
+        ensures too_long { result ≡ false → self.old.taken.limit < self.old.taken.at + line_width self.old.taken.ahead }
+        ensures held { result ≡ true → TakesLine self.old.taken self.new.taken self.old.taken.ahead self.new.taken.ahead (Ok true) }
+        ensures line { result ≡ true → TakesLineWhereTold self.old.taken self.new.taken (ahead_of self.old.taken (left (F.state self.old.files.now))) (ahead_of self.new.taken (left (F.state self.new.files.now))) (Ok true) }
+        ensures count { result ≡ true → CountsLine self.old.taken self.new.taken (Ok true) }
+        ensures few { self.new.taken.lines ≤ self.new.taken.limit }
+        ensures in_limit { self.new.taken.at ≤ self.new.taken.limit }
+    {
+        self.taken.take_held(place).is_ok()
     }
 
     /// Takes all bytes of the file, as they are. `TooLong` comes exactly where a byte past the limit
@@ -86,10 +111,7 @@ impl<'a, F: Files> InputOver<'a, F, Taken> {
         ensures whole { TakesWholeWhereTold self.old.taken self.new.taken (ahead_of self.old.taken (left (F.state self.old.files.now))) (ahead_of self.new.taken (left (F.state self.new.files.now))) result }
         ensures count { CountsWhole self.old.taken self.new.taken result }
     {
-        match load(self.files, &mut self.taken) {
-            Ok(()) => self.taken.take_all(),
-            Err(fault) => Err(fault),
-        }
+        self.taken.take_all(self.files)
     }
 
     /// The line that was taken last, without its end.
@@ -112,51 +134,5 @@ impl<'a, F: Files> InputOver<'a, F, Taken> {
         ensures { result ≡ self.now.taken.at }
     {
         self.taken.at()
-    }
-}
-
-// Reads on to the end of the file, or until a byte past the limit is held. (Not inlined: its buffer
-// would be on the stack of each line that is taken.)
-#[inline(never)]
-fn load<F: Files>(files: &mut F, taken: &mut Taken) -> Result<(), InFault>
-    requires { IsSome (F.state files.old).reading }
-    ensures frame { ReadsOn (F.state files.old) (F.state files.new) }
-    ensures cause { InCause (F.state files.old).read_faults (F.state files.new).read_faults result }
-    ensures not_too_long { IsNotTooLong result }
-    ensures only { OnlyHolds taken.old taken.new }
-    ensures content { OnOk result (SameContent taken.old taken.new (left (F.state files.old)) (left (F.state files.new))) }
-    ensures all { OnOk result (length taken.new.held ≤ taken.new.limit → IsAllRead (left (F.state files.new))) }
-{
-    let mut buffer = [0u8; 65536];
-    while taken.is_within_limit() {
-        match load_some(files, taken, &mut buffer) {
-            Ok(true) => (),
-            Ok(false) => return Ok(()),
-            Err(fault) => return Err(fault),
-        }
-    }
-    Ok(())
-}
-
-// Holds some more bytes. `false` says that the file ends.
-fn load_some<F: Files>(files: &mut F, taken: &mut Taken, buffer: &mut [u8]) -> Result<bool, InFault>
-    requires open { IsSome (F.state files.old).reading }
-    requires room { 0 < length buffer.old }
-    ensures frame { ReadsOn (F.state files.old) (F.state files.new) }
-    ensures cause { InCause (F.state files.old).read_faults (F.state files.new).read_faults result }
-    ensures not_too_long { IsNotTooLong result }
-    ensures only { OnlyHolds taken.old taken.new }
-    ensures content { OnOk result (SameContent taken.old taken.new (left (F.state files.old)) (left (F.state files.new))) }
-    ensures more { IfOk result (λ more. OnTrue more (length taken.old.held < length taken.new.held)) }
-    ensures all { IfOk result (λ more. more ≡ false → IsAllRead (left (F.state files.new))) }
-{
-    match files.read(buffer) {
-        Ok(0) => Ok(false),
-        Ok(n) => match taken.hold(&buffer[..n]) {
-            Ok(()) => Ok(true),
-            Err(_) => Err(InFault::Memory),
-        },
-        Err(Stop::Failed) => Err(InFault::Read),
-        Err(Stop::Memory) => Err(InFault::Memory),
     }
 }

@@ -2,9 +2,16 @@
 #![tactic(auto)]
 
 mod disk;
+#[cfg(test)]
+mod disk_tests;
+mod drip;
+mod file_sink;
 mod files;
+mod gather;
 mod input;
+mod last_line;
 mod mem_files;
+mod mem_map;
 mod mem_sink;
 mod plan;
 mod put;
@@ -14,8 +21,13 @@ mod stop;
 mod taken;
 #[cfg(test)]
 mod tests;
+mod window;
+#[cfg(test)]
+mod write_tests;
 
 pub use disk::DiskFiles;
+pub use drip::Drip;
+pub use file_sink::FileSink;
 pub use files::Files;
 pub use input::{Input, InputOver};
 pub use mem_files::MemFiles;

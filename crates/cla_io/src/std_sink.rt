@@ -75,7 +75,7 @@ ghost use Rattle.std.specs.Io.KnownBytes.{Appends};
 
 // Writes some of the bytes and flushes, and gives their number. `None` is an error of either, or a
 // write that took no byte, which would never end.
-fn write_some<W: Write>(inner: &mut W, piece: &[u8]) -> Option<usize>
+pub(crate) fn write_some<W: Write>(inner: &mut W, piece: &[u8]) -> Option<usize>
     ensures some { IfSome result (λ n. 1 ≤ n) }
     ensures within { IfSome result (λ n. n ≤ length piece.now) }
     ensures reaches { IfSome result (λ n. Appends (W.contents inner.old) (W.contents inner.new) (take n piece.now)) }

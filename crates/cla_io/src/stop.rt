@@ -29,6 +29,9 @@ pub enum InFault {
 pub enum CallKind {
     BeginRead,
     Read,
+    BeginWrite,
+    Write,
+    EndWrite,
 }
 
 impl From<Memory> for Stop {

@@ -1,49 +1,59 @@
 //! What an input holds of its file, and what was taken of it.
 
-ghost use Rattle.std.specs.Prelude.{◌≡◌, ◌<◌, ◌≤◌, ◌++◌, ◌↔◌, ◌^◌, [], length, drop, take, false, Err, IsTrue, IfOk, OnOk, OnErr};
+ghost use Rattle.std.specs.Prelude.{◌≡◌, ◌≤◌, ◌^◌, [], length, take, false, true, Some, IfOk, OnErr, OnOk, IsSome};
 ghost use Rattle.cla_spec.specs.Lines.{without_cr};
-ghost use Rattle.cla_io.specs.Lines.{TakesLine, CountsLine, CountsWhole, OnlyHolds, OnlyTooLong, IsLfPlace, EndsAt, line_number_of};
+ghost use Rattle.cla_io.specs.State.{left};
+ghost use Rattle.cla_io.specs.Lines.{TakesLine, TakesLineWhereTold, TakesWholeWhereTold, CountsLine, CountsWhole, OnlyTooLong, IsLfPlace, InCause, HasNoLf, ahead_of, line_number_of};
+ghost use Rattle.cla_io.specs.InputFrame.{ReadsOn};
 
+use crate::files::Files;
+use crate::gather::{gather, read_all};
+use crate::last_line::LastLine;
 use crate::stop::InFault;
-use cla_num::Memory;
-use memchr::memchr;
+use crate::window::Window;
 use std::alloc::Global;
 use std::marker::Model;
 
-/// The bytes that were read, how many of them were taken, and the line that was taken last.
+/// The bytes that are held, the line that was taken last, and how much was taken.
 #[derive(Drop)]
 pub struct Taken {
-    bytes: Vec<u8>,
+    window: Window,
+    last: LastLine,
     limit: u64,
-    at: usize,
-    line_start: usize,
-    line_end: usize,
+    at: u64,
     lines: u64,
     ended: bool,
 }
 
 impl Model for Taken {
-    ghost use Rattle.std.specs.Prelude.{take, drop, ◌-◌};
-    ghost use Rattle.cla_io.specs.Lines.{Progress, IsInOrder};
+    ghost use Rattle.std.specs.Prelude.{length};
+    ghost use Rattle.cla_io.specs.Lines.{Progress};
+    ghost use Rattle.cla_io.specs.Window.{items, line_of, IsInOrder};
 
     ghost Value = { Progress };
 
-    ghost view = { λ t. record { held = t.bytes.items; at = t.at; limit = t.limit; line = take (t.line_end - t.line_start) (drop t.line_start t.bytes.items); lines = t.lines; ended = t.ended } };
+    ghost view = { λ t. record {
+      ahead = items t.window;
+      at = t.at;
+      limit = t.limit;
+      line = line_of t.last t.window.bytes.items;
+      lines = t.lines;
+      ended = t.ended;
+    } };
 
-    ghost invariant = { λ t. IsInOrder t.bytes.items t.limit t.at t.line_start t.line_end t.lines };
+    ghost invariant = { λ t. IsInOrder t.last (length t.window.bytes.items) t.limit t.at t.lines };
 }
 
 impl Taken {
     pub(crate) fn new(alloc: Global, limit: u64) -> Taken
         requires { limit ≤ 2 ^ 32 }
-        ensures { result ≡ record { held = []; at = 0; limit = limit; line = []; lines = 0; ended = false } }
+        ensures { result ≡ record { ahead = []; at = 0; limit = limit; line = []; lines = 0; ended = false } }
     {
         Taken {
-            bytes: Vec::new(alloc),
+            window: Window::new(alloc),
+            last: LastLine::Held { start: 0, end: 0 },
             limit,
             at: 0,
-            line_start: 0,
-            line_end: 0,
             lines: 0,
             ended: false,
         }
@@ -52,13 +62,16 @@ impl Taken {
     pub(crate) fn at(&self) -> u64
         ensures { result ≡ self.now.at }
     {
-        self.at as u64
+        self.at
     }
 
     pub(crate) fn line(&self) -> &[u8]
         ensures { result.now ≡ self.now.line }
     {
-        &self.bytes[self.line_start..self.line_end]
+        match &self.last {
+            LastLine::Held { start, end } => &self.window.bytes[*start..*end],
+            LastLine::Apart { bytes } => bytes,
+        }
     }
 
     pub(crate) fn line_number(&self) -> u64
@@ -71,95 +84,104 @@ impl Taken {
         }
     }
 
-    // Whether the bytes that are held don't pass the limit.
-    pub(crate) fn is_within_limit(&self) -> bool
-        ensures within { IsTrue result ↔ (length self.now.held ≤ self.now.limit) }
-        ensures limit { self.now.limit ≤ 2 ^ 32 }
+    // The bytes that are held.
+    #[inline(always)]
+    pub(crate) fn ahead(&self) -> &[u8]
+        ensures { result.now ≡ self.now.ahead }
     {
-        self.bytes.len() as u64 <= self.limit
+        self.window.as_slice()
     }
 
-    // Holds more bytes of the file.
-    pub(crate) fn hold(&mut self, piece: &[u8]) -> Result<(), Memory>
-        ensures held { OnOk result (self.new ≡ record self.old { held = self.old.held ++ piece.now }) }
-        ensures same { OnErr result (self.new ≡ self.old) }
-    {
-        self.bytes.extend_from_slice(piece)?;
-        Ok(())
-    }
-
-    // Takes all bytes that are held.
-    pub(crate) fn take_all(&mut self) -> Result<Vec<u8>, InFault>
-        requires { self.old.at ≡ 0 }
-        ensures held { self.new.held ≡ self.old.held }
-        ensures limit { self.new.limit ≡ self.old.limit }
-        ensures all { IfOk result (λ taken. taken.items ≡ self.old.held) }
-        ensures count { CountsWhole self.old self.new result }
-        ensures past_limit { result ≡ Err InFault.TooLong → self.new.limit < length self.new.held }
-        ensures not_read { result ≡ Err InFault.Read → ⊥ }
-    {
-        if self.limit < self.bytes.len() as u64 {
-            return Err(InFault::TooLong);
-        }
-        let Ok(bytes) = Vec::from_slice(*self.bytes.allocator(), &self.bytes) else {
-            return Err(InFault::Memory);
-        };
-        self.at = self.bytes.len();
-        Ok(bytes)
-    }
-
-    // How far ahead the next LF stands among the bytes that are held, if there is one.
+    // Where the next LF stands among them, if there is one.
     pub(crate) fn lf_ahead(&self) -> Option<usize>
-        ensures place { IsLfPlace (drop self.now.at self.now.held) result }
-        ensures within { self.now.at ≤ length self.now.held }
+        ensures { IsLfPlace self.now.ahead result }
     {
-        memchr(b'\n', &self.bytes[self.at..])
+        self.window.lf_place()
     }
 
-    // Takes the next line of the bytes that are held.
-    pub(crate) fn take_line(&mut self, lf: Option<usize>) -> Result<bool, InFault>
-        requires { IsLfPlace (drop self.old.at self.old.held) lf }
-        ensures held { self.new.held ≡ self.old.held }
+    // Takes the next line, which ends at this LF.
+    #[inline(always)]
+    pub(crate) fn take_held(&mut self, place: usize) -> Result<bool, InFault>
+        requires { IsLfPlace self.old.ahead (Some place) }
         ensures limit { self.new.limit ≡ self.old.limit }
-        ensures within { self.new.at ≤ length self.new.held }
-        ensures line { TakesLine self.old self.new (drop self.old.at self.old.held) (drop self.new.at self.old.held) result }
+        ensures line { TakesLine self.old self.new self.old.ahead self.new.ahead result }
         ensures count { CountsLine self.old self.new result }
-        ensures in_limit { OnOk result (self.new.at ≤ self.new.limit) }
         ensures only_too_long { OnlyTooLong result }
+        ensures same { OnErr result (self.new ≡ self.old) }
+        ensures few { self.new.lines ≤ self.new.limit }
+        ensures in_limit { self.new.at ≤ self.new.limit }
     {
-        let ahead = self.bytes.len() - self.at;
-        match lf {
-            Some(place) => self.take_bytes(place, place + 1),
-            None => self.take_bytes(ahead, ahead),
-        }
-    }
-
-    // Takes a line that ends at `end` from here, and with its end has `width` bytes.
-    fn take_bytes(&mut self, end: usize, width: usize) -> Result<bool, InFault>
-        requires { EndsAt (drop self.old.at self.old.held) end width }
-        ensures held { self.new.held ≡ self.old.held }
-        ensures limit { self.new.limit ≡ self.old.limit }
-        ensures within { self.new.at ≤ length self.new.held }
-        ensures line { TakesLine self.old self.new (drop self.old.at self.old.held) (drop self.new.at self.old.held) result }
-        ensures count { CountsLine self.old self.new result }
-        ensures in_limit { OnOk result (self.new.at ≤ self.new.limit) }
-        ensures only_too_long { OnlyTooLong result }
-    {
-        let next = self.at + width;
-        if self.limit < next as u64 {
+        let next = self.at + place as u64 + 1;
+        if self.limit < next {
             return Err(InFault::TooLong);
         }
-        if width == 0 {
-            self.ended = true;
-            return Ok(false);
-        }
-        let line = &self.bytes[self.at..self.at + end];
-        self.line_end = self.at + len_without_cr(line);
-        self.line_start = self.at;
+        let start = self.window.start;
+        let end = start + len_without_cr(&self.window.as_slice()[..place]);
+        self.last = LastLine::Held { start, end };
+        self.window.consume(place + 1);
         self.at = next;
         self.lines += 1;
         self.ended = false;
         Ok(true)
+    }
+
+    // Takes the next line, whose end isn't held. The last line is kept apart first, since to read on
+    // overwrites the buffer.
+    pub(crate) fn take_far<F: Files>(&mut self, files: &mut F) -> Result<bool, InFault>
+        requires open { IsSome (F.state files.old).reading }
+        requires none { HasNoLf self.old.ahead }
+        ensures frame { ReadsOn (F.state files.old) (F.state files.new) }
+        ensures cause { InCause (F.state files.old).read_faults (F.state files.new).read_faults result }
+        ensures limit { self.new.limit ≡ self.old.limit }
+        ensures line { TakesLineWhereTold self.old self.new (ahead_of self.old (left (F.state files.old))) (ahead_of self.new (left (F.state files.new))) result }
+        ensures count { CountsLine self.old self.new result }
+        ensures few { self.new.lines ≤ self.new.limit }
+        ensures in_limit { self.new.at ≤ self.new.limit }
+    {
+        let alloc = *self.window.bytes.allocator();
+        let Ok(last) = Vec::from_slice(alloc, self.line()) else {
+            return Err(InFault::Memory);
+        };
+        self.last = LastLine::Apart { bytes: last };
+        let mut line = Vec::new(alloc);
+        let room = self.limit - self.at;
+        let width = match gather(files, &mut self.window, &mut line, room) {
+            Ok(width) => width,
+            Err(fault) => return Err(fault),
+        };
+        if width == 0 {
+            self.ended = true;
+            return Ok(false);
+        }
+        line.truncate(len_without_cr(&line));
+        self.last = LastLine::Apart { bytes: line };
+        self.at += width as u64;
+        self.lines += 1;
+        self.ended = false;
+        Ok(true)
+    }
+
+    // Takes all bytes of the file, and keeps the last line apart in the same way.
+    pub(crate) fn take_all<F: Files>(&mut self, files: &mut F) -> Result<Vec<u8>, InFault>
+        requires open { IsSome (F.state files.old).reading }
+        requires nothing_taken { self.old.at ≡ 0 }
+        ensures frame { ReadsOn (F.state files.old) (F.state files.new) }
+        ensures cause { InCause (F.state files.old).read_faults (F.state files.new).read_faults result }
+        ensures limit { self.new.limit ≡ self.old.limit }
+        ensures whole { TakesWholeWhereTold self.old self.new (ahead_of self.old (left (F.state files.old))) (ahead_of self.new (left (F.state files.new))) result }
+        ensures count { CountsWhole self.old self.new result }
+    {
+        let alloc = *self.window.bytes.allocator();
+        let Ok(last) = Vec::from_slice(alloc, self.line()) else {
+            return Err(InFault::Memory);
+        };
+        self.last = LastLine::Apart { bytes: last };
+        let all = match read_all(alloc, files, &mut self.window, self.limit) {
+            Ok(all) => all,
+            Err(fault) => return Err(fault),
+        };
+        self.at = all.len() as u64;
+        Ok(all)
     }
 }
 

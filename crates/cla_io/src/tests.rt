@@ -1,12 +1,12 @@
-//! Reads and writes, some of which are to fail.
+//! Reads of files in memory, some of which are to fail, and their lines.
 
-ghost use Rattle.std.specs.Prelude.{◌≤◌, ◌^◌, IsSome};
+ghost use Rattle.std.specs.Prelude.{◌≡◌, ◌≤◌, ◌^◌, None, IsSome, IfOk};
+ghost use Rattle.cla_io.specs.InputFrame.{ReadsOn};
 
+use crate::drip::Drip;
 use crate::files::Files;
 use crate::input::Input;
 use crate::mem_files::MemFiles;
-use crate::mem_sink::MemSink;
-use crate::put::put_all;
 use crate::stop::{CallKind, InFault, Stop};
 use cla_num::Name;
 use std::alloc::Global;
@@ -18,7 +18,8 @@ type Piece = (Result<usize, Stop>, [u8; 3]);
 
 fn next_piece<F: Files>(files: &mut F) -> Piece
     requires { IsSome (F.state files.old).reading }
-    ensures { IsSome (F.state files.new).reading }
+    ensures reading { IsSome (F.state files.new).reading }
+    ensures writing { (F.state files.new).writing ≡ (F.state files.old).writing }
 {
     let mut buffer = [0; 3];
     let answer = files.read(&mut buffer);
@@ -26,7 +27,10 @@ fn next_piece<F: Files>(files: &mut F) -> Piece
 }
 
 // What four reads from a file's start give; `None` where there is no such file.
-fn first_bytes<F: Files>(files: &mut F, name: &str) -> Result<Option<[Piece; 4]>, Stop> {
+fn first_bytes<F: Files>(files: &mut F, name: &str) -> Result<Option<[Piece; 4]>, Stop>
+    requires { (F.state files.old).writing ≡ None }
+    ensures { (F.state files.new).writing ≡ None }
+{
     if !files.begin_read(name)? {
         return Ok(None);
     }
@@ -69,23 +73,23 @@ fn reads_in_pieces(rt: HostRuntime) -> Result<(), Fail> {
     Ok(())
 }
 
-#[test]
-fn goes_on_after_a_failed_write(rt: HostRuntime) -> Result<(), Fail> {
-    let fail = [2].to_vec(rt.alloc())?;
-    let mut sink = MemSink::new(fail);
-    assert_eq!(rt; put_all(&mut sink, b"one"), Ok(()));
-    assert_eq!(rt; put_all(&mut sink, b"two"), Err(Stop::Failed));
-    assert_eq!(rt; put_all(&mut sink, b"three"), Ok(()));
-    assert_eq!(rt; sink.bytes(), b"onethree".as_slice());
-    Ok(())
-}
+// What taking a line answers, with the line's number, how many bytes are taken after it, how long
+// the line is and its last byte.
+type Step = (Result<bool, InFault>, u64, u64, usize, Option<u8>);
 
-// What taking a line answers, with the line's number and how many bytes are taken after it.
-type Step = (Result<bool, InFault>, u64, u64);
-
-fn step<F: Files>(input: &mut Input<'_, F>) -> Step {
+fn step<F: Files>(input: &mut Input<'_, F>) -> Step
+    ensures same_reference { input.new.files.ghost_name ≡ input.old.files.ghost_name }
+    ensures frame { ReadsOn (F.state input.old.files.now) (F.state input.new.files.now) }
+{
     let answer = input.next_line();
-    (answer, input.line_number(), input.at())
+    let line = input.line();
+    (
+        answer,
+        input.line_number(),
+        input.at(),
+        line.len(),
+        line.last().copied(),
+    )
 }
 
 // What four lines of a file come to; `None` where it can't be begun.
@@ -95,8 +99,10 @@ fn first_lines<F: Files>(
     name: &str,
     limit: u64,
 ) -> Result<Option<[Step; 4]>, Fail>
+    requires idle { (F.state files.old).writing ≡ None }
     requires least { 8 ≤ limit }
     requires most { limit ≤ 2 ^ 32 }
+    ensures { (F.state files.new).writing ≡ None }
 {
     match files.begin_read(name) {
         Ok(true) => (),
@@ -118,16 +124,80 @@ fn takes_lines_up_to_the_limit(rt: HostRuntime) -> Result<(), Fail> {
     held.insert(Name::of(alloc, "nine")?, b"12345678\n".to_vec(alloc)?)?;
     let mut files = MemFiles::new(held, Vec::new(alloc));
     let all = [
-        (Ok(true), 1, 4),
-        (Ok(true), 2, 5),
-        (Ok(true), 3, 6),
-        (Ok(false), 4, 6),
+        (Ok(true), 1, 4, 2, Some(b'b')),
+        (Ok(true), 2, 5, 0, None),
+        (Ok(true), 3, 6, 1, Some(b'c')),
+        (Ok(false), 4, 6, 1, Some(b'c')),
     ];
     assert_eq!(rt; first_lines(alloc, &mut files, "lines", 8)?, Some(all));
     assert_eq!(rt; first_lines(alloc, &mut files, "none", 8)?, None);
     let [whole, ..] = first_lines(alloc, &mut files, "nine", 9)?.unwrap_or(all);
-    assert_eq!(rt; whole, (Ok(true), 1, 9));
+    assert_eq!(rt; whole, (Ok(true), 1, 9, 8, Some(b'8')));
     let [cut, ..] = first_lines(alloc, &mut files, "nine", 8)?.unwrap_or(all);
-    assert_eq!(rt; cut.0, Err(InFault::TooLong));
+    assert_eq!(rt; cut, (Err(InFault::TooLong), 0, 0, 0, None));
+    Ok(())
+}
+
+// Files with one, whose lines have 65,533, 7, 0 and 70,000 bytes. Two bytes of the second stand at
+// the end of a buffer of 65,536 bytes.
+fn long_lines(alloc: Global, fail: Vec<(CallKind, u64)>) -> Result<MemFiles, Fail>
+    ensures { IfOk result (λ files. (⟦<MemFiles as Files>⟧.state files).writing ≡ None) }
+{
+    let mut bytes = Vec::from_elem(alloc, b'x', 65_533)?;
+    bytes.extend_from_slice(b"\nabcdef\r\r\n\n")?;
+    bytes.extend_from_slice(&[b'y'; 70_000])?;
+    let mut files = BTreeMap::new(alloc);
+    files.insert(Name::of(alloc, "long")?, bytes)?;
+    Ok(MemFiles::new(files, fail))
+}
+
+const LONG_LINES: [Step; 4] = [
+    (Ok(true), 1, 65_534, 65_533, Some(b'x')),
+    (Ok(true), 2, 65_543, 7, Some(b'\r')),
+    (Ok(true), 3, 65_544, 0, None),
+    (Ok(true), 4, 135_544, 70_000, Some(b'y')),
+];
+
+#[test]
+fn takes_lines_over_the_end_of_the_buffer(rt: HostRuntime) -> Result<(), Fail> {
+    let alloc = rt.alloc();
+    let mut files = long_lines(alloc, Vec::new(alloc))?;
+    assert_eq!(rt;
+        first_lines(alloc, &mut files, "long", 135_544)?,
+        Some(LONG_LINES)
+    );
+    let [.., last] = first_lines(alloc, &mut files, "long", 135_543)?.unwrap_or(LONG_LINES);
+    assert_eq!(rt; last, (Err(InFault::TooLong), 3, 65_544, 0, None));
+    Ok(())
+}
+
+#[test]
+fn keeps_the_line_at_a_failed_read(rt: HostRuntime) -> Result<(), Fail> {
+    let alloc = rt.alloc();
+    let mut files = long_lines(alloc, [(CallKind::Read, 2)].to_vec(alloc)?)?;
+    let [_, second, ..] = first_lines(alloc, &mut files, "long", 135_544)?.unwrap_or(LONG_LINES);
+    assert_eq!(rt; second, (Err(InFault::Read), 1, 65_534, 65_533, Some(b'x')));
+    Ok(())
+}
+
+#[test]
+fn takes_lines_of_one_byte_a_read(rt: HostRuntime) -> Result<(), Fail> {
+    let alloc = rt.alloc();
+    let mut drip = Drip::new(long_lines(alloc, Vec::new(alloc))?, 1);
+    assert_eq!(rt;
+        first_lines(alloc, &mut drip, "long", 135_544)?,
+        Some(LONG_LINES)
+    );
+    Ok(())
+}
+
+#[test]
+fn takes_lines_of_seven_bytes_a_read(rt: HostRuntime) -> Result<(), Fail> {
+    let alloc = rt.alloc();
+    let mut drip = Drip::new(long_lines(alloc, Vec::new(alloc))?, 7);
+    assert_eq!(rt;
+        first_lines(alloc, &mut drip, "long", 135_544)?,
+        Some(LONG_LINES)
+    );
     Ok(())
 }
