@@ -1,6 +1,10 @@
-pub mod PlainDecimals
-pub mod StepLaws
-pub mod SizeLaws
+pub mod SumLaws
+pub mod CellLaws
 pub mod EntryLaws
-pub mod RowLaws
-pub mod TableLaws
+pub mod SizeLaws
+pub mod PhaseLaws
+pub mod PlacedLaws
+pub mod ReadingLaws
+pub mod TextLaws
+pub mod PartLaws
+pub mod PlainLaws

@@ -1,5 +1,6 @@
-pub mod Decimals
-pub mod Steps
-pub mod Size
-pub mod Entries
-pub mod Table
+pub mod Reading
+pub mod Writing
+pub mod Texts
+pub mod Cells
+pub mod Sums
+pub mod Phases

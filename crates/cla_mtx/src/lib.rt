@@ -1,13 +1,15 @@
-//! The reader of Matrix Market files: today array files in their plainest spelling.
+//! The reader and the writer of Matrix Market files, by the NIST Matrix Market exchange format.
 #![tactic(auto)]
 
-mod columns;
-mod decimal;
+mod entries;
 mod fault;
-mod line;
+mod next_cell;
+mod phase;
+mod plain;
 mod reader;
-mod rows;
-mod size;
+mod writer;
 
-pub use fault::MtxFault;
+pub use cla_market::MtxFault;
+pub use fault::OutFault;
 pub use reader::read_mtx;
+pub use writer::write_mtx;

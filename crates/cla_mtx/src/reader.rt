@@ -1,78 +1,59 @@
-//! The reader of array files.
+//! The reader: one loop over the lines of an input.
 
-ghost use Rattle.std.specs.Prelude.{◌≡◌, ◌≤◌, IfOk, OnOk, map};
+ghost use Rattle.std.specs.Prelude.{◌≡◌};
 ghost use Rattle.cla_io.specs.State.{left};
 ghost use Rattle.cla_io.specs.InputFrame.{ReadsOn};
 ghost use Rattle.cla_io.specs.Lines.{ahead_of};
 ghost use Rattle.cla_num.specs.Bits.{IsSupported};
-ghost use Rattle.cla_spec.specs.Matrix.{IsShaped};
-ghost use Rattle.cla_mtx.specs.Steps.{StepWhereTold, HasReadCause};
-ghost use Rattle.cla_mtx.specs.Table.{TakesTable, NeverTable, ReadsArrayFile};
+ghost use Rattle.cla_mtx.specs.Reading.{ReadsTextWhereTold, HasReadCause};
 
-use crate::columns::read_columns;
-use crate::fault::MtxFault;
-use crate::line::expect_end;
-use crate::rows::by_rows;
-use crate::size::read_head;
-use cla_io::{Files, Input};
+use crate::phase::{Phase, finish, take_line, take_plain_lines};
+use cla_io::{Files, InFault, Input};
+use cla_market::MtxFault;
 use cla_num::{Dense, Number};
 use std::alloc::Global;
 
-/// The entries of an array file, column by column.
-struct Columns<N: Number> {
-    rows: u32,
-    cols: u32,
-    entries: Vec<N>,
-}
-
-/// The matrix whose array file the whole text is: the banner of the NIST Matrix Market array
-/// format with the field `integer` and the symmetry `general`, the numbers of rows and of columns,
-/// and the entries column by column, one a line, each a plain decimal in range.
+/// The matrix that the whole text spells, in one pass over its lines.
 ///
-/// Every other text is refused as `Banner` with line 1. `Read` comes only where faults of reading
-/// rose. `Ok` says that the file was read to its end.
+/// The text is a file of the NIST Matrix Market exchange format: an array of integers, or a coordinate
+/// file of integers or of a pattern; general, symmetric, or, for integers, skew-symmetric. Each other
+/// text is refused at its first bad line. `TooLong` comes at the first line that needs a byte past the
+/// input's limit, `Read` only where faults of reading rose, and `Memory` at any line. `Ok` says that
+/// the file was read to its end.
+///
+/// It takes memory by the entries that were read, and for the whole matrix only at the end.
 pub fn read_mtx<N: Number, F: Files>(
     alloc: Global,
     input: &mut Input<'_, F>,
 ) -> Result<Dense<N>, MtxFault>
     requires bits { IsSupported N.BITS }
-    requires start { input.old.taken.at ≡ 0 }
+    requires nothing_taken { input.old.taken.at ≡ 0 }
+    requires no_line { input.old.taken.lines ≡ 0 }
     ensures same_reference { input.new.files.ghost_name ≡ input.old.files.ghost_name }
     ensures frame { ReadsOn (F.state input.old.files.now) (F.state input.new.files.now) }
-    ensures cause { HasReadCause (F.state input.old.files.now).read_faults (F.state input.new.files.now).read_faults result }
-    ensures reads { ReadsArrayFile N.BITS input.old.taken.limit (ahead_of input.old.taken (left (F.state input.old.files.now))) (ahead_of input.new.taken (left (F.state input.new.files.now))) result }
+    ensures cause { let before = (F.state input.old.files.now).read_faults in
+        HasReadCause before (F.state input.new.files.now).read_faults result }
+    ensures reads { let before = ahead_of input.old.taken (left (F.state input.old.files.now)) in
+        let after = ahead_of input.new.taken (left (F.state input.new.files.now)) in
+        ReadsTextWhereTold N.BITS input.old.taken.limit before after result }
 {
-    let columns = read_table(alloc, input)?;
-    let Columns {
-        rows,
-        cols,
-        entries,
-    } = columns;
-    match by_rows(alloc, rows, cols, entries) {
-        Ok(cells) => Ok(Dense::new(rows, cols, cells)),
-        Err(_) => Err(MtxFault::Memory),
+    let mut phase = Phase::Banner;
+    'lines: loop {
+        match input.next_line() {
+            Ok(true) => {
+                match take_line(alloc, &mut phase, input.line_number(), input.line()) {
+                    Ok(()) => (),
+                    Err(fault) => return Err(fault),
+                }
+                match take_plain_lines(&mut phase, input) {
+                    Ok(()) => (),
+                    Err(fault) => return Err(fault),
+                }
+            }
+            Ok(false) => return finish(input.line_number(), phase),
+            Err(InFault::TooLong) => return Err(MtxFault::TooLong),
+            Err(InFault::Read) => return Err(MtxFault::Read),
+            Err(InFault::Memory) => return Err(MtxFault::Memory),
+        }
     }
-}
-
-fn read_table<N: Number, F: Files>(
-    alloc: Global,
-    input: &mut Input<'_, F>,
-) -> Result<Columns<N>, MtxFault>
-    requires { IsSupported N.BITS }
-    ensures same_reference { input.new.files.ghost_name ≡ input.old.files.ghost_name }
-    ensures frame { ReadsOn (F.state input.old.files.now) (F.state input.new.files.now) }
-    ensures cause { HasReadCause (F.state input.old.files.now).read_faults (F.state input.new.files.now).read_faults result }
-    ensures limit { input.new.taken.limit ≡ input.old.taken.limit }
-    ensures shape { IfOk result (λ t. IsShaped t.rows t.cols t.entries.items) }
-    ensures in_limit { OnOk result (input.new.taken.at ≤ input.new.taken.limit) }
-    ensures step { StepWhereTold (λ before after t. TakesTable t.rows t.cols (map N.value t.entries.items) before after) (NeverTable N.BITS) input.old.taken input.new.taken (ahead_of input.old.taken (left (F.state input.old.files.now))) (ahead_of input.new.taken (left (F.state input.new.files.now))) result }
-{
-    let (rows, cols) = read_head(input)?;
-    let entries = read_columns(alloc, input, rows as usize * cols as usize)?;
-    expect_end(input)?;
-    Ok(Columns {
-        rows,
-        cols,
-        entries,
-    })
 }

@@ -2,7 +2,7 @@
 
 ghost use Rattle.std.specs.Prelude.{◌≡◌, ◌*◌, ◌<◌, ◌≤◌, ◌+ℤ◌, IfOk, IfErr, OnOk, OnErr};
 ghost use Rattle.cla_num.specs.Bits.{IsSupported};
-ghost use Rattle.cla_spec.specs.Matrix.{most_cells, entry};
+ghost use Rattle.cla_spec.specs.Matrix.{most_cells, entry, IsShaped};
 ghost use Rattle.cla_spec.specs.Numbers.{InRange};
 ghost use Rattle.cla_table.specs.Tables.{zero_table, Adds, HasCause};
 
@@ -96,7 +96,8 @@ impl<N: Number> Triples<N> {
     /// The matrix of the sums. Where memory is wanting, the table is dropped.
     pub fn finish(self) -> Result<Dense<N>, Memory>
         requires { IsSupported N.BITS }
-        ensures { IfOk result (λ m. m ≡ self) }
+        ensures sums { IfOk result (λ m. m ≡ self) }
+        ensures shape { IfOk result (λ m. IsShaped m.rows m.cols m.cells) }
     {
         let Triples {
             alloc,

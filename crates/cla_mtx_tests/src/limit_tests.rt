@@ -1,0 +1,129 @@
+//! Tables that are read with a limit.
+
+ghost use Rattle.std.specs.Prelude.{◌≡◌, None};
+
+use crate::good_texts::{ARRAYS, GENERALS, Good, MIRRORED, SKIPPED};
+use crate::heads::{ARRAY, GENERAL, NONE};
+use crate::table_files::{Answer, is_matrix, joined, one_file, read_up_to};
+use cla_io::{Files, InFault, Input};
+use cla_mtx::MtxFault;
+use std::alloc::Global;
+use std::process::Abort;
+use std::test::Fail;
+
+// What reading a text comes to, of which at most `limit` bytes are taken.
+fn limited(alloc: Global, text: &[u8], limit: u64) -> Result<Answer, Fail> {
+    if limit < 8 || limit > 1 << 32 {
+        return Err(Fail::new("no limit"));
+    }
+    let mut files = one_file(alloc, text, None)?;
+    read_up_to(alloc, &mut files, "x", limit)
+}
+
+// A good text is needed whole: no byte of it may lie past the limit.
+fn need_all_bytes(rt: &impl Abort, alloc: Global, table: &[Good]) -> Result<(), Fail> {
+    for (head, rest, rows, cols, cells) in table {
+        let text = joined(alloc, head, rest)?;
+        let bytes = text.len() as u64;
+        let m = limited(alloc, text.as_bytes(), bytes)??;
+        assert!(rt; is_matrix(&m, *rows, *cols, cells), "{text}");
+        let fault = limited(alloc, text.as_bytes(), bytes.saturating_sub(1))?.err();
+        assert_eq!(rt; fault, Some(MtxFault::TooLong), "{text}");
+    }
+    Ok(())
+}
+
+#[test]
+fn good_texts_at_their_limit(rt: HostRuntime) -> Result<(), Fail> {
+    need_all_bytes(&rt, rt.alloc(), &GENERALS)?;
+    need_all_bytes(&rt, rt.alloc(), &SKIPPED)?;
+    need_all_bytes(&rt, rt.alloc(), &MIRRORED)?;
+    need_all_bytes(&rt, rt.alloc(), &ARRAYS)
+}
+
+// A bad line stands as soon as its own bytes are within the limit, and no byte before.
+#[test]
+fn bad_lines_before_the_limit(rt: HostRuntime) -> Result<(), Fail> {
+    let alloc = rt.alloc();
+    for (head, rest, least, want) in [
+        (
+            NONE,
+            "%MatrixMarket\n1 1\n1\n",
+            14,
+            MtxFault::Banner { line: 1 },
+        ),
+        (GENERAL, "1 1\n1 1\n", 53, MtxFault::Size { line: 2 }),
+        (
+            GENERAL,
+            "8193 8193 0\n1\n",
+            61,
+            MtxFault::TooLarge {
+                rows: 8193,
+                cols: 8193,
+            },
+        ),
+        (
+            GENERAL,
+            "1 1 2\n1 1 x\n1 1 1\n",
+            61,
+            MtxFault::Entry { line: 3 },
+        ),
+        (
+            GENERAL,
+            "1 1 2\n1 2 1\n1 1 1\n",
+            61,
+            MtxFault::Index { line: 3 },
+        ),
+        (
+            GENERAL,
+            "1 1 1\n1 1 1\nx\n",
+            63,
+            MtxFault::TooMany { line: 4 },
+        ),
+        (
+            GENERAL,
+            "1 1 0\n% c\n1 1 1\nx\n",
+            65,
+            MtxFault::TooMany { line: 4 },
+        ),
+        (GENERAL, "1 1 2\n1 1 1", 60, MtxFault::TooFew { line: 4 }),
+        (
+            ARRAY,
+            "1 1\n140737488355328",
+            63,
+            MtxFault::Range { line: 3 },
+        ),
+    ] {
+        let text = joined(alloc, head, rest)?;
+        let fault = limited(alloc, text.as_bytes(), least)?.err();
+        assert_eq!(rt; fault, Some(want), "{text}");
+        let fault = limited(alloc, text.as_bytes(), least - 1)?.err();
+        assert_eq!(rt; fault, Some(MtxFault::TooLong), "{text}");
+    }
+    Ok(())
+}
+
+// What the first line of the file `x` comes to, up to 40 bytes.
+fn first_line<F: Files>(alloc: Global, files: &mut F) -> Result<Result<bool, InFault>, Fail>
+    requires { (F.state files.old).writing ≡ None }
+{
+    match files.begin_read("x") {
+        Ok(true) => (),
+        _ => return Err(Fail::new("no file to read")),
+    }
+    let mut input = Input::new(alloc, files, 40)?;
+    Ok(input.next_line())
+}
+
+#[test]
+fn a_first_line_past_the_limit(rt: HostRuntime) -> Result<(), Fail> {
+    let alloc = rt.alloc();
+    let text = joined(alloc, GENERAL, "8193 8193 0\n")?;
+    let mut files = one_file(alloc, text.as_bytes(), None)?;
+    assert_eq!(rt; first_line(alloc, &mut files)?, Err(InFault::TooLong));
+    assert_eq!(rt;
+        limited(alloc, text.as_bytes(), 40)?.err(),
+        Some(MtxFault::TooLong)
+    );
+    Ok(())
+}
