@@ -16,7 +16,7 @@ use Rattle.cla_meaning.specs.Orders.{IsChoice}
 use Rattle.cla_agg.specs.Extremes.{IsFirstOfParts}
 use Rattle.cla_agg.proofs.PartSums.{IsPartRead}
 
-last_or_before : (n k : ℕ) → k < n + 1 → (k ≡ n) ⊎ (k < n)
+pub last_or_before : (n k : ℕ) → k < n + 1 → (k ≡ n) ⊎ (k < n)
 last_or_before n k lt = elim (cases_eq k n) [
   | inl same ↦ inl same
   | inr other ↦ inr (grind (arith, lt, other))
@@ -119,3 +119,11 @@ pub a_part : {G : Type 0} (bits : ℕ) (codes : G → List ℕ) (dictionary : G 
 a_part bits codes dictionary m whole =
     let found = some_part m.cols (parts_of codes dictionary m.parts) 0 whole.partition (omega (arith, whole.a_col)) in
     omega (arith, found.1, parts_count codes dictionary m.parts)
+
+-- an extreme is that of the same values
+pub extreme_respects : (Before : ℤ → ℤ → Type 0) (f g : ℕ → ℤ) (n : ℕ) (v : ℤ) → ((i : ℕ) → i < n → f i ≡ g i)
+    → IsExtreme Before f n v → IsExtreme Before g n v
+extreme_respects Before f g n v same is = record {
+  reached = (is.reached.0, is.reached.1, sym (same is.reached.0 is.reached.1) ∙ is.reached.2);
+  before = λ i lt. subst (Before v) (same i lt) (is.before i lt);
+}

@@ -1,2 +1,5 @@
 pub mod PartSums
 pub mod Extremes
+pub mod Placed
+pub mod Spread
+pub mod Answered

@@ -5,7 +5,7 @@ use Rattle.std.proofs.lemmas.List.Sums.{sum_by-cons}
 use Rattle.std.specs.Int.RustNames.{unsigned_abs}
 use Rattle.cla_spec.specs.Numbers.{sum_to}
 use Rattle.cla_spec.specs.Matrix.{sum_of_entries}
-use Rattle.cla_spec.proofs.Sums.{sum_to-size, sum_to-swap}
+use Rattle.cla_spec.proofs.Sums.{sum_to-same, sum_to-size, sum_to-swap}
 use Rattle.cla_num.specs.Bits.{IsSupported, value_bound}
 use Rattle.cla_num.proofs.Sizes.{value_size, plus_size}
 use Rattle.cla_layout.specs.Groups.{code_of, cell_of, IsGroup}
@@ -122,10 +122,23 @@ part_read {G} bits codes dictionary m items q part whole same there is =
           own_column_within m.cols parts q (column_at part.columns.items c) whole.partition within (rw at_q own.1));
     }
 
+-- a part has as many rows as codes
+pub own_rows : (bits rows : ℕ) (part : LayoutPart) → IsPart bits rows part → IsPart bits (length part.codes) part
+own_rows bits rows part is = subst (λ (n : ℕ). IsPart bits n part) (sym is.a_code_each) is
+
+-- all parts are read, where this place is past them
+pub all_read : {G : Type 0} (codes : G → List ℕ) (dictionary : G → List (List ℤ)) (m : TableOf G) (items : List (Part G)) (q : ℕ)
+    → items ≡ m.parts → (q < length items → ⊥) → length (parts_of codes dictionary m.parts) ≤ q
+all_read {G} codes dictionary m items q same past =
+    let count = parts_count codes dictionary m.parts in
+    let long : length items ≡ length m.parts = ap (λ (ps : List (Part G)). length ps) same in omega (arith, past, count, long)
+
+-- a sum is that of the same values
+pub sum_respects : (f g : ℕ → ℤ) (n : ℕ) (v : ℤ) → ((i : ℕ) → i < n → f i ≡ g i) → v ≡ sum_to f n → v ≡ sum_to g n
+sum_respects f g n v same is = is ∙ sum_to-same f g n same
+
 -- the parts before this place, where it is past them
 pub parts_read : {G : Type 0} (codes : G → List ℕ) (dictionary : G → List (List ℤ)) (m : TableOf G) (items : List (Part G)) (q : ℕ)
     → items ≡ m.parts → (q < length items → ⊥) → take q (parts_of codes dictionary m.parts) ≡ parts_of codes dictionary m.parts
 parts_read {G} codes dictionary m items q same past =
-    let all : length (parts_of codes dictionary m.parts) ≤ q = (let count = parts_count codes dictionary m.parts in
-    let long : length items ≡ length m.parts = ap (λ (ps : List (Part G)). length ps) same in omega (arith, past, count, long)) in
-    take_all q (parts_of codes dictionary m.parts) all
+    take_all q (parts_of codes dictionary m.parts) (all_read codes dictionary m items q same past)

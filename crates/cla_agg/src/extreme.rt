@@ -52,7 +52,7 @@ fn first_of_group<N: Number, G: Group<N>, O: Order<N>>(g: &G) -> N
     first
 }
 
-fn first_of_tuple<N: Number, G: Group<N>, O: Order<N>>(g: &G, k: u32) -> N
+pub(crate) fn first_of_tuple<N: Number, G: Group<N>, O: Order<N>>(g: &G, k: u32) -> N
     requires { k < length (G.dictionary g.now) }
     ensures { IsExtreme O.before (value_of (G.dictionary g.now) k) (G.columns g.now) (N.value result) }
 {

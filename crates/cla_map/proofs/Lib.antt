@@ -4,3 +4,4 @@ pub mod Steps
 pub mod Shapes
 pub mod Results
 pub mod Ends
+pub mod RowEnds

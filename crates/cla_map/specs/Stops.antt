@@ -58,6 +58,7 @@ tuple_room = 2 ^ 127 + 2 ^ 126 + 2 ^ 60
 abbrev pub part_room : ℕ
 part_room = 2 ^ 127 + 2 ^ 126 + 2 ^ 59
 
--- the first m values of the tuples, each mapped
-abbrev pub mapped_values : (ℤ → ℤ) → ℕ → List (List ℤ) → ℕ → List ℤ
-mapped_values h width tuples m = map (λ p. h (value_of tuples (p / width) (p % width))) (range_with_len 0 m)
+-- the first m values of the tuples, each mapped as its place asks
+abbrev pub mapped_values : (ℕ → ℤ → ℤ) → ℕ → List (List ℤ) → ℕ → List ℤ
+mapped_values h width tuples m =
+    map (λ p. h (p % width) (value_of tuples (p / width) (p % width))) (range_with_len 0 m)

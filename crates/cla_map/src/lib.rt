@@ -2,9 +2,10 @@
 #![tactic(auto)]
 
 mod chain;
+mod mapping;
 mod misfit;
 mod shape;
 mod step;
 
-pub use chain::map_chain;
+pub use chain::{broadcast_row, map_chain};
 pub use step::Step;

@@ -79,8 +79,8 @@ pub(crate) struct Ran<N> {
     pub(crate) stop: Option<Stop>,
 }
 
-// One step: the next number, or what is wrong with it.
-fn next_value<N: Number>(step: &Step<N>, x: N, meter: &mut Meter) -> Result<N, What>
+/// One step: the next number, or what is wrong with it.
+pub(crate) fn next_value<N: Number>(step: &Step<N>, x: N, meter: &mut Meter) -> Result<N, What>
     requires bits { IsSupported N.BITS }
     requires room { AreBelow value_room meter.old }
     ensures next { GivesNumber N.BITS N.value (step_cell N.value step.now (N.value x)) result }

@@ -1,5 +1,5 @@
 -- What operators count.
-use Rattle.std.specs.Prelude.{◌≡◌, ℕ, ◌+◌, ◌≤◌, Option, None}
+use Rattle.std.specs.Prelude.{◌≡◌, ℕ, ◌+◌, ◌≤◌, Option, None, Result, Ok, Err}
 use Rattle.cla_num.specs.Counts.{Counts}
 
 -- so many map evaluations were made, and no multiplications
@@ -22,3 +22,14 @@ pub record HasMapsUpTo (n : ℕ) (before now : Counts) : Type 0 where
   pub mults : now.mults ≡ before.mults
   pub least : before.maps ≤ now.maps
   pub most : now.maps ≤ before.maps + n
+
+-- at most so many multiplications were made, and no map evaluations
+pub record HasMultsUpTo (n : ℕ) (before now : Counts) : Type 0 where
+  pub maps : now.maps ≡ before.maps
+  pub least : before.mults ≤ now.mults
+  pub most : now.mults ≤ before.mults + n
+
+-- the multiplications of a call that was done; where it was refused, at most as many
+abbrev pub HasMultsOf : {X E : Type 0} → ℕ → Result X E → Counts → Counts → Type 0
+HasMultsOf n (Ok x) before now = HasMults n before now
+HasMultsOf n (Err e) before now = HasMultsUpTo n before now

@@ -1,5 +1,6 @@
 pub mod Entries
 pub mod Chains
 pub mod Counts
+pub mod Answers
 pub mod Orders
 pub mod Laws

@@ -1,9 +1,7 @@
-use Rattle.std.proofs.Common.{◌≡◌, ◌*◌, ℕ, length, map, ap, sym, ◌∙◌, Some, None}
-use Rattle.std.proofs.lemmas.List.{length-map}
+use Rattle.std.proofs.Common.{◌≡◌, ℕ, length, map, refl, ap, sym, ◌∙◌, Some, None}
 use Rattle.cla_num.specs.declared.fault.OpFault.{OpFault}
 use Rattle.cla_coded.specs.Parts.{parts_of}
 use Rattle.cla_coded.specs.Tables.{layout_of}
-use Rattle.cla_layout.specs.Values.{values_of}
 use Rattle.cla_map.specs.Steps.{step_cell}
 use Rattle.cla_map.specs.Stops.{last_value, stop_from, fault_of_misfit, place_in}
 use Rattle.cla_map.specs.FirstStops.{mapped_part, Tells, StopsInParts}
@@ -18,9 +16,9 @@ new-requires g c =
     let fs = map (step_cell g.N.Number.value) c.args.steps.now in
     let old = parts_of g.G.Group.codes g.G.Group.dictionary m.parts in
     let done = c.in-Ok.ensures.done in
-    let parts : parts_of g.G.Group.codes g.G.Group.dictionary c.in-Ok.parts.items ≡ map (mapped_part (last_value bits fs)) old =
-    done.values ∙ ap (λ ps. map (mapped_part (last_value bits fs)) (parts_of g.G.Group.codes g.G.Group.dictionary ps)) c.parts.ensures.parts in
-    rw (c.base_of-shape.ensures, parts) (mapped_whole bits (last_value bits fs) (layout_of g.G.Group.codes g.G.Group.dictionary m) (last_ranged bits fs) c.parts.ensures.whole)
+    let parts : parts_of g.G.Group.codes g.G.Group.dictionary c.in-Ok.parts.items ≡ map (mapped_part (λ j. last_value bits fs)) old =
+    done.values ∙ ap (λ ps. map (mapped_part (λ j. last_value bits fs)) (parts_of g.G.Group.codes g.G.Group.dictionary ps)) c.parts.ensures.parts in
+    rw (c.base_of-shape.ensures, parts) (mapped_whole bits (λ j. last_value bits fs) (layout_of g.G.Group.codes g.G.Group.dictionary m) (λ j. last_ranged bits fs) c.parts.ensures.whole)
 
 pub returns-in-Some-clause-maps : goal.returns-in-Some-clause-maps
 returns-in-Some-clause-maps g c =
@@ -38,9 +36,9 @@ returns-in-None-clause-maps g c =
     let base = layout_of g.G.Group.codes g.G.Group.dictionary m in
     let old = parts_of g.G.Group.codes g.G.Group.dictionary m.parts in
     let done = rw (c.parts.ensures.parts, c.base_of-shape.ensures) at c.in-Ok.ensures.done in
-    let tells : Tells (StopsInParts (stop_from bits 0 fs) (place_in (record { rows = m.rows; cols = m.cols; flipped = m.flipped })) old (length old)) None = rw c.in-None.is at done.tells in
+    let tells : Tells (StopsInParts (λ j. stop_from bits 0 fs) (place_in (record { rows = m.rows; cols = m.cols; flipped = m.flipped })) old (length old)) None = rw c.in-None.is at done.tells in
     rw (c.new.ensures, c.base_of-shape.ensures) (
       chained bits g.G.Group.codes g.G.Group.dictionary fs m c.in-Ok.parts.items c.parts.ensures.whole tells done.values,
       chain_goes bits fs base m.flipped c.parts.ensures.whole tells,
-      counts_are _ _ c.in-Ok.first _ _ (ap (λ (n : ℕ). values_of old * n) (sym (length-map c.args.steps.now (step_cell g.N.Number.value)))) c.in-None.is done.counts,
+      counts_are _ _ c.in-Ok.first _ _ refl c.in-None.is done.counts,
     )

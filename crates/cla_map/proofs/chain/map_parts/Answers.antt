@@ -4,8 +4,7 @@ use Rattle.cla_layout.specs.Layouts.{LayoutPart, layout_with}
 use Rattle.cla_coded.specs.Parts.{part_of, parts_of}
 use Rattle.cla_coded.proofs.Outlines.{part_of_item, parts_count}
 use Rattle.cla_layout.proofs.Wholes.{own_column, own_column_within}
-use Rattle.cla_map.specs.Steps.{step_cell}
-use Rattle.cla_map.specs.Stops.{last_value, stop_from, place_in}
+use Rattle.cla_map.specs.Stops.{place_in}
 use Rattle.cla_map.specs.FirstStops.{Tells, StopsInPart, StopsInParts, mapped_part}
 use Rattle.cla_layout.specs.Values.{values_of}
 use Rattle.cla_map.specs.Answers.{MapsPart}
@@ -34,7 +33,7 @@ pub map_part-requires-clause-room : goal.map_part-requires-clause-room
 map_part-requires-clause-room g c =
     let parts = parts_of g.G.Group.codes g.G.Group.dictionary c.args.parts.now in
     let few = values_few g.N.Number.BITS (layout_with c.args.shape.rows c.args.shape.cols parts) c.loop-part.part-index c.requires.whole in
-    let small = few_runs (values_of (take c.loop-part.part-index parts)) (length c.args.steps.now) (omega (arith, few, c.requires.whole.few)) c.requires.few in
+    let small = few_runs (values_of (take c.loop-part.part-index parts)) (g.M.Mapping.steps c.args.mapping.now) (omega (arith, few, c.requires.whole.few)) c.requires.few in
     record { mults = omega (arith, c.requires.room.mults, c.loop-part.invariant.counts.mults); maps = omega (arith, c.requires.room.maps, c.loop-part.invariant.counts.most, small) }
 
 pub loop-part-preserved : goal.loop-part-preserved
@@ -45,17 +44,16 @@ loop-part-preserved g c =
     let q = c.loop-part.part-index in
     let within : q < length parts = rw (parts_count g.G.Group.codes g.G.Group.dictionary items) c.loop-part-test.true in
     let is = part_of_item g.G.Group.codes g.G.Group.dictionary items q c.part-item.result c.loop-part-test.true c.part-item.is in
-    let fs = map (step_cell g.N.Number.value) c.args.steps.now in
-    let stop = stop_from g.N.Number.BITS 0 fs in
-    let h = last_value g.N.Number.BITS fs in
-    let done : MapsPart stop h c.args.shape part (part_of g.G.Group.codes g.G.Group.dictionary c.in_ok-next.next) c.in_ok-next.found (length c.args.steps.now) c.loop-part.meter c.map_part.new.meter = c.in_ok-next.ensures.done in
-    let runs : values_of (take q parts) * length c.args.steps.now + length part.tuples * length part.columns * length c.args.steps.now ≡ values_of (take (q + 1) parts) * length c.args.steps.now =
-    omega (arith, ap (λ (n : ℕ). n * length c.args.steps.now) (values_more parts q within), ap (λ (p : LayoutPart). length p.tuples * length p.columns * length c.args.steps.now) is) in
+    let stop = g.M.Mapping.stop c.args.mapping.now in
+    let last = g.M.Mapping.last c.args.mapping.now in
+    let done : MapsPart stop last c.args.shape part (part_of g.G.Group.codes g.G.Group.dictionary c.in_ok-next.next) c.in_ok-next.found (g.M.Mapping.steps c.args.mapping.now) c.loop-part.meter c.map_part.new.meter = c.in_ok-next.ensures.done in
+    let runs : values_of (take q parts) * g.M.Mapping.steps c.args.mapping.now + length part.tuples * length part.columns * g.M.Mapping.steps c.args.mapping.now ≡ values_of (take (q + 1) parts) * g.M.Mapping.steps c.args.mapping.now =
+    omega (arith, ap (λ (n : ℕ). n * g.M.Mapping.steps c.args.mapping.now) (values_more parts q within), ap (λ (p : LayoutPart). length p.tuples * length p.columns * g.M.Mapping.steps c.args.mapping.now) is) in
     let told = tells_part stop (place_in c.args.shape) parts q c.loop-part.first c.in_ok-next.found c.loop-part.invariant.placed done.placed c.loop-part.invariant.tells
     (subst (λ (p : LayoutPart). Tells (StopsInPart stop (place_in c.args.shape) p) c.in_ok-next.found) (sym is) done.tells) in
     rw c.lesser-first.ensures
     (record {
-      values = rw c.in_ok-push.ensures.items (parts_more g.G.Group.codes g.G.Group.dictionary h parts q c.loop-part.mapped.items c.in_ok-next.next within c.loop-part.invariant.values (done.values ∙ ap (mapped_part h) (sym is)));
+      values = rw c.in_ok-push.ensures.items (parts_more g.G.Group.codes g.G.Group.dictionary last parts q c.loop-part.mapped.items c.in_ok-next.next within c.loop-part.invariant.values (done.values ∙ ap (mapped_part last) (sym is)));
       tells = told.0;
       placed = told.1;
       counts = raised_as _ _ _ _ _ runs (raised_more _ _ _ _ _ _ _ c.loop-part.invariant.counts done.counts);
@@ -66,16 +64,17 @@ returns-clause-done g c =
     let items = c.args.parts.now in
     let parts = parts_of g.G.Group.codes g.G.Group.dictionary items in
     let q = c.loop-part.part-index in
-    let fs = map (step_cell g.N.Number.value) c.args.steps.now in
+    let stop = g.M.Mapping.stop c.args.mapping.now in
+    let last = g.M.Mapping.last c.args.mapping.now in
     let count = parts_count g.G.Group.codes g.G.Group.dictionary items in
     let past : length parts ≤ q = rw count c.loop-part-test.false in
     let all : q ≡ length parts = omega (arith, c.loop-part-test.false, count, c.loop-part.auto.part-index-end) in
-    let done : length (map (mapped_part (last_value g.N.Number.BITS fs)) parts) ≤ q = rw (length-map parts (mapped_part (last_value g.N.Number.BITS fs))) past in
+    let done : length (map (mapped_part last) parts) ≤ q = rw (length-map parts (mapped_part last)) past in
     record {
-      values = c.loop-part.invariant.values ∙ take_all q (map (mapped_part (last_value g.N.Number.BITS fs)) parts) done;
-      tells = subst (λ (n : ℕ). Tells (StopsInParts (stop_from g.N.Number.BITS 0 fs) (place_in c.args.shape) parts n) c.loop-part.first) all c.loop-part.invariant.tells;
+      values = c.loop-part.invariant.values ∙ take_all q (map (mapped_part last) parts) done;
+      tells = subst (λ (n : ℕ). Tells (StopsInParts stop (place_in c.args.shape) parts n) c.loop-part.first) all c.loop-part.invariant.tells;
       placed = c.loop-part.invariant.placed;
-      counts = raised_as _ _ _ _ _ (ap (λ (ps : List LayoutPart). values_of ps * length c.args.steps.now) (take_all q parts past)) c.loop-part.invariant.counts;
+      counts = raised_as _ _ _ _ _ (ap (λ (ps : List LayoutPart). values_of ps * g.M.Mapping.steps c.args.mapping.now) (take_all q parts past)) c.loop-part.invariant.counts;
     }
 
 pub returns-in_err-next-clause-counts : goal.returns-in_err-next-clause-counts
@@ -84,7 +83,7 @@ returns-in_err-next-clause-counts g c =
     let parts = parts_of g.G.Group.codes g.G.Group.dictionary items in
     let part = part_of g.G.Group.codes g.G.Group.dictionary c.part-item.result in
     let q = c.loop-part.part-index in
-    let s = length c.args.steps.now in
+    let s = g.M.Mapping.steps c.args.mapping.now in
     let within : q < length parts = rw (parts_count g.G.Group.codes g.G.Group.dictionary items) c.loop-part-test.true in
     let is = part_of_item g.G.Group.codes g.G.Group.dictionary items q c.part-item.result c.loop-part-test.true c.part-item.is in
     let runs : values_of (take q parts) * s + length part.tuples * length part.columns * s ≡ values_of (take (q + 1) parts) * s =
@@ -97,7 +96,7 @@ returns-in_err-push-clause-counts g c =
     let parts = parts_of g.G.Group.codes g.G.Group.dictionary items in
     let part = part_of g.G.Group.codes g.G.Group.dictionary c.part-item.result in
     let q = c.loop-part.part-index in
-    let s = length c.args.steps.now in
+    let s = g.M.Mapping.steps c.args.mapping.now in
     let within : q < length parts = rw (parts_count g.G.Group.codes g.G.Group.dictionary items) c.loop-part-test.true in
     let is = part_of_item g.G.Group.codes g.G.Group.dictionary items q c.part-item.result c.loop-part-test.true c.part-item.is in
     let runs : values_of (take q parts) * s + length part.tuples * length part.columns * s ≡ values_of (take (q + 1) parts) * s =

@@ -1,0 +1,62 @@
+-- What is made of each row or column of a matrix.
+use Rattle.std.specs.Prelude.{◌≡◌, ◌⊎◌, ℕ, ℤ, false, ◌+◌, ◌*◌, ◌<◌, List, length, map, Some, None, Result, Ok, Err}
+use Rattle.cla_spec.specs.Numbers.{sum_to}
+use Rattle.cla_spec.specs.Matrix.{Matrix, entry}
+use Rattle.cla_num.specs.Fault.{fault_of, exactly}
+use Rattle.cla_num.specs.declared.fault.Refused.{Refused}
+use Rattle.cla_num.specs.declared.fault.Refused.TheVariants.{Op, Memory}
+use Rattle.cla_layout.specs.Groups.{at, cell_of}
+use Rattle.cla_layout.specs.GroupLaws.{IsExtreme}
+use Rattle.cla_layout.specs.Layouts.{LayoutPart, column_at, has_column}
+use Rattle.cla_layout.proofs.Cells.{occurring}
+use Rattle.cla_meaning.specs.Entries.{Entry}
+
+-- a matrix of one column has in each row the first entry of the row, in an order: the least, or the greatest
+pub record AreRowExtremes (Before : ℤ → ℤ → Type 0) (rows cols : ℕ) (a : Entry) (m : Matrix) : Type 0 where
+  pub height : m.rows ≡ rows
+  pub width : m.cols ≡ 1
+  pub each : (i : ℕ) → i < rows → IsExtreme Before (a i) cols (entry m i 0)
+
+-- a matrix of one row has in each column the first entry of the column
+pub record AreColExtremes (Before : ℤ → ℤ → Type 0) (rows cols : ℕ) (a : Entry) (m : Matrix) : Type 0 where
+  pub height : m.rows ≡ 1
+  pub width : m.cols ≡ cols
+  pub each : (j : ℕ) → j < cols → IsExtreme Before (λ i. a i j) rows (entry m 0 j)
+
+-- one row or one column of n cells
+abbrev pub IsLine : ℕ → ℕ → ℕ → Type 0
+IsLine n rows cols = (rows ≡ 1) × (cols ≡ n) ⊎ (rows ≡ n) × (cols ≡ 1)
+
+-- a matrix of this shape, of whose cells this holds
+pub record HasCells (Holds : ℕ → ℤ → Type 0) (rows cols : ℕ) (m : Matrix) : Type 0 where
+  pub height : m.rows ≡ rows
+  pub width : m.cols ≡ cols
+  pub each : (p : ℕ) → p < rows * cols → Holds p (at m.cells p)
+
+-- all cells as numbers, where none is out of range, or else the first fault
+abbrev pub AnswersCells : {N : Type 0} → ℕ → (N → ℤ) → ℕ → ℕ → List ℤ → Result (List N) Refused → Type 0
+AnswersCells bits value rows cols cells (Ok numbers) =
+    (map value numbers ≡ cells) × (fault_of bits rows cols (exactly (λ i j. at cells (i * cols + j))) ≡ None)
+AnswersCells bits value rows cols cells (Err (Op fault)) =
+    fault_of bits rows cols (exactly (λ i j. at cells (i * cols + j))) ≡ Some fault
+AnswersCells bits value rows cols cells (Err Memory) = Unit {0}
+
+-- v is the sum of the first n values
+abbrev pub IsSumOf : (ℕ → ℤ) → ℕ → ℤ → Type 0
+IsSumOf f n v = v ≡ sum_to f n
+
+-- what is made of each column of a part stands at the column's place; other places keep what they held
+pub record ArePlaced (Of : (ℕ → ℤ) → ℕ → ℤ → Type 0) (part : LayoutPart) (old new : List ℤ) : Type 0 where
+  pub made : (c : ℕ) → c < length part.columns →
+      Of (λ i. cell_of part.codes part.tuples i c) (length part.codes) (at new (column_at part.columns c))
+  pub kept : (j : ℕ) → has_column part j ≡ false → at new j ≡ at old j
+
+-- the first k tuples are added up, each as often as it occurs, at the places of the columns
+abbrev pub AreAddedTo : ℕ → LayoutPart → List ℤ → Type 0
+AreAddedTo k part into = (c : ℕ) → c < length part.columns →
+    at into (column_at part.columns c) ≡ sum_to (λ l. occurring part.codes part.tuples l c) k
+
+-- and one more
+pub record IsTupleAdded (k : ℕ) (part : LayoutPart) (old new : List ℤ) : Type 0 where
+  pub added : AreAddedTo (k + 1) part new
+  pub kept : (j : ℕ) → has_column part j ≡ false → at new j ≡ at old j

@@ -1,0 +1,117 @@
+//! Sums and extremes of the columns of a base: by tuples, and how often each occurs.
+
+ghost use Rattle.std.specs.Prelude.{◌≡◌, ◌<◌, ◌*◌, ◌+ℤ◌, ℕ, pos, false, length};
+ghost use Rattle.cla_num.specs.Bits.{IsSupported};
+ghost use Rattle.cla_num.specs.Counts.{AreBelow, kernel_bound, step_bound};
+ghost use Rattle.cla_layout.specs.Groups.{at, cell_of};
+ghost use Rattle.cla_layout.specs.GroupLaws.{IsExtreme};
+ghost use Rattle.cla_layout.specs.Layouts.{IsPart, IsWhole, column_at, entry_in};
+ghost use Rattle.cla_layout.specs.Values.{values_of};
+ghost use Rattle.cla_layout.proofs.Cells.{occurring};
+ghost use Rattle.cla_coded.specs.Parts.{part_of, parts_of};
+ghost use Rattle.cla_coded.specs.Tables.{layout_of};
+ghost use Rattle.cla_meaning.specs.Entries.{col_sum};
+ghost use Rattle.cla_meaning.specs.Counts.{HasMults};
+ghost use Rattle.cla_agg.specs.Sums.{group_bound};
+ghost use Rattle.cla_agg.specs.Lines.{IsSumOf, ArePlaced, AreAddedTo, IsTupleAdded};
+
+use crate::order::Order;
+use cla_coded::{Part, Table};
+use cla_group::Group;
+use cla_num::{Meter, Number, Wide};
+
+/// Adds up each column of the base, at its place. `into` has a zero for each.
+pub(crate) fn add_columns<N: Number, G: Group<N>>(
+    m: &Table<N, G>,
+    into: &mut [Wide],
+    meter: &mut Meter,
+)
+    requires bits { IsSupported N.BITS }
+    requires room { AreBelow kernel_bound meter.old }
+    requires columns { length into.old ≡ m.now.cols }
+    requires zeros { (j : ℕ) → at into.old j ≡ pos 0 }
+    ensures sums { let entry = entry_in (parts_of G.codes G.dictionary m.now.parts) in
+        (j : ℕ) → j < m.now.cols → at into.new j ≡ col_sum m.now.rows entry j }
+    ensures whole { IsWhole N.BITS (layout_of G.codes G.dictionary m.now) }
+    ensures counts { HasMults (values_of (parts_of G.codes G.dictionary m.now.parts)) meter.old meter.new }
+{
+    for part in m.parts() {
+        add_part(part, into, meter);
+    }
+}
+
+// Adds up the columns of a part.
+fn add_part<N: Number, G: Group<N>>(part: &Part<G>, into: &mut [Wide], meter: &mut Meter)
+    requires bits { IsSupported N.BITS }
+    requires part { IsPart N.BITS (length (G.codes part.now.group)) (part_of G.codes G.dictionary part.now) }
+    requires room { AreBelow group_bound meter.old }
+    requires within { let columns = part.now.columns.items in
+        (c : ℕ) → c < length columns → column_at columns c < length into.old }
+    requires zeros { let columns = part.now.columns.items in
+        (c : ℕ) → c < length columns → at into.old (column_at columns c) ≡ pos 0 }
+    ensures sums { ArePlaced IsSumOf (part_of G.codes G.dictionary part.now) into.old into.new }
+    ensures counts { HasMults (length (G.dictionary part.now.group) * length part.now.columns.items) meter.old meter.new }
+{
+    for k in 0..part.group.tuples() {
+        add_tuple(part, k, into, meter);
+    }
+}
+
+// Adds a tuple's values, as often as it occurs, each at the place of its column.
+fn add_tuple<N: Number, G: Group<N>>(part: &Part<G>, k: u32, into: &mut [Wide], meter: &mut Meter)
+    requires bits { IsSupported N.BITS }
+    requires part { IsPart N.BITS (length (G.codes part.now.group)) (part_of G.codes G.dictionary part.now) }
+    requires room { AreBelow step_bound meter.old }
+    requires tuple { k < length (G.dictionary part.now.group) }
+    requires within { let columns = part.now.columns.items in
+        (c : ℕ) → c < length columns → column_at columns c < length into.old }
+    requires so_far { AreAddedTo k (part_of G.codes G.dictionary part.now) into.old }
+    ensures sums { IsTupleAdded k (part_of G.codes G.dictionary part.now) into.old into.new }
+    ensures counts { HasMults (length part.now.columns.items) meter.old meter.new }
+{
+    let count = Wide::count(part.group.occurrences(k));
+    for c in 0..part.group.width() {
+        let place = part.columns[c as usize] as usize;
+        into[place] = into[place].plus(part.group.value(k, c).times(count, meter));
+    }
+}
+
+/// Puts the extreme of each column of the base at its place.
+pub(crate) fn choose_in_columns<N: Number, G: Group<N>, O: Order<N>>(
+    m: &Table<N, G>,
+    into: &mut [Wide],
+)
+    requires columns { length into.old ≡ m.now.cols }
+    ensures firsts { let entry = entry_in (parts_of G.codes G.dictionary m.now.parts) in
+        (j : ℕ) → j < m.now.cols → IsExtreme O.before (λ i. entry i j) m.now.rows (at into.new j) }
+    ensures whole { IsWhole N.BITS (layout_of G.codes G.dictionary m.now) }
+{
+    for part in m.parts() {
+        choose_in_part::<N, G, O>(part, into);
+    }
+}
+
+// Puts the extremes of a part's columns at their places.
+fn choose_in_part<N: Number, G: Group<N>, O: Order<N>>(part: &Part<G>, into: &mut [Wide])
+    requires part { IsPart N.BITS (length (G.codes part.now.group)) (part_of G.codes G.dictionary part.now) }
+    requires within { let columns = part.now.columns.items in
+        (c : ℕ) → c < length columns → column_at columns c < length into.old }
+    ensures { ArePlaced (IsExtreme O.before) (part_of G.codes G.dictionary part.now) into.old into.new }
+{
+    for c in 0..part.group.width() {
+        into[part.columns[c as usize] as usize] = first_of_column::<N, G, O>(&part.group, c).wide();
+    }
+}
+
+// The extreme of a column, from the tuples.
+fn first_of_column<N: Number, G: Group<N>, O: Order<N>>(g: &G, c: u32) -> N
+    requires { c < G.columns g.now }
+    ensures { let cell = cell_of (G.codes g.now) (G.dictionary g.now) in
+        IsExtreme O.before (λ i. cell i c) (length (G.codes g.now)) (N.value result) }
+{
+    let mut first = g.value(0, c);
+    for k in 1..g.tuples() {
+        first = O::chosen(first, g.value(k, c));
+    }
+    first
+}
