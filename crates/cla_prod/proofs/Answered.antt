@@ -1,0 +1,159 @@
+-- From lines to the entries of products.
+use Rattle.std.proofs.Common.{◌≡◌, ℕ, ℤ, pos, ◌+◌, ◌*◌, ◌<◌, ◌≤◌, ◌*ℤ◌, min, max, List, Bool, true, false, not, length, map, Result, Ok, Err, cond, Some, None, refl, ap, subst, sym, ◌∙◌, arith}
+use Rattle.std.proofs.Math.Nat.{mul_comm}
+use Rattle.std.proofs.Math.IntN.{*ℤ_comm}
+use Rattle.cla_spec.specs.Numbers.{sum_to}
+use Rattle.cla_spec.specs.Matrix.{Matrix, IsShaped, entry, row_by_row}
+use Rattle.cla_spec.proofs.Entries.{row_by_row-same}
+use Rattle.cla_spec.proofs.Sums.{sum_to-same}
+use Rattle.cla_num.specs.Fault.{fault_of, exactly}
+use Rattle.cla_num.specs.declared.fault.OpFault.{OpFault}
+use Rattle.cla_num.specs.declared.fault.Refused.{Refused}
+use Rattle.cla_num.specs.declared.fault.Refused.TheVariants.{Op, Memory}
+use Rattle.cla_num.proofs.Faults.{fault_of-same}
+use Rattle.cla_layout.specs.Groups.{at}
+use Rattle.cla_layout.specs.Layouts.{LayoutPart}
+use Rattle.cla_meaning.specs.Entries.{product_entry}
+use Rattle.cla_prod.specs.declared.lines.Lines.{Lines}
+use Rattle.cla_prod.specs.declared.numbers.Order.{Order}
+use Rattle.cla_prod.specs.declared.numbers.Order.TheVariants.{Rows, Columns, Mirrored}
+use Rattle.cla_prod.specs.Answers.{AnswersEntries}
+use Rattle.cla_prod.specs.Lines.{AreLines, entry_turned, cell_at, rows_in, cols_in, entry_by_lines, line_times, IsSquare}
+use Rattle.cla_prod.proofs.LinesRead.{some_items}
+use Rattle.cla_prod.proofs.LinesWritten.{AreWritten}
+
+-- the matrix whose lines the products are
+pub lines_shape : {X : Type 0} (bits : ℕ) (turned : Bool) (parts : List LayoutPart) (lines : Lines)
+    (items products : ℕ) (order : Order) (cells : List X)
+    → AreLines bits turned parts lines items products → length cells ≡ lines.count * lines.outer
+    → IsShaped (rows_in order lines) (cols_in order lines) cells
+lines_shape bits turned parts lines items products Rows cells are long =
+    let some = some_items bits turned lines.outer lines.inner parts are.whole in
+    record { a_row = are.a_line; a_col = some.0; count = long; few = are.few }
+lines_shape bits turned parts lines items products Columns cells are long =
+    let some = some_items bits turned lines.outer lines.inner parts are.whole in
+    let turn = mul_comm lines.outer lines.count in
+    record { a_row = some.0; a_col = are.a_line; count = long ∙ sym turn; few = omega (arith, are.few, turn) }
+lines_shape bits turned parts lines items products Mirrored cells are long =
+    let some = some_items bits turned lines.outer lines.inner parts are.whole in
+    record { a_row = are.a_line; a_col = some.0; count = long; few = are.few }
+
+-- a cell is the item of its line
+pub cell_is : (order : Order) (lines : Lines) (f : ℕ → ℕ → ℤ) (cells : List ℤ) → IsSquare order
+    (rows_in order lines) (cols_in order lines)
+    → AreWritten lines.count lines.outer f cells
+    → (i j : ℕ) → i < rows_in order lines → j < cols_in order lines
+    → cell_at order (rows_in order lines) (cols_in order lines) cells i j ≡ entry_by_lines order f i j
+cell_is Rows lines f cells square are i j row col = are i j row col
+cell_is Columns lines f cells square are i j row col = are j i col row
+cell_is Mirrored lines f cells square are i j row col = are (min i j) (max i j) (omega (arith, row))
+    (omega (arith, row, col, square))
+
+-- entries by another name
+pub entries_named : (bits rows cols : ℕ) (f g : ℕ → ℕ → ℤ) (result : Result Matrix Refused) → 1 ≤ cols
+    → ((i j : ℕ) → i < rows → j < cols → f i j ≡ g i j) → AnswersEntries bits rows cols f result
+    → AnswersEntries bits rows cols g result
+entries_named bits rows cols f g (Ok m) some same (is, none) = (
+  is ∙ ap (λ (cells : List ℤ). record { rows = rows; cols = cols; cells = cells })
+      (row_by_row-same rows cols f g (pos 0) some same),
+  sym (fault_of-same bits rows cols f g some same) ∙ none,
+)
+entries_named bits rows cols f g (Err (Op fault)) some same is = sym (fault_of-same bits rows cols f g some same) ∙ is
+entries_named bits rows cols f g (Err Memory) some same is = tt
+
+-- the same for a matrix of a shape by another name
+pub entries_at : (bits rows cols rows' cols' : ℕ) (f g : ℕ → ℕ → ℤ) (result : Result Matrix Refused) → rows ≡ rows'
+    → cols ≡ cols' → 1 ≤ cols
+    → ((i j : ℕ) → i < rows → j < cols → f i j ≡ g i j) → AnswersEntries bits rows cols f result
+    → AnswersEntries bits rows' cols' g result
+entries_at bits rows cols rows' cols' f g result row_is col_is some same answers =
+    subst (λ (r : ℕ). AnswersEntries bits r cols' g result) row_is
+    (subst (λ (n : ℕ). AnswersEntries bits rows n g result) col_is (entries_named bits rows cols f g result some
+    same answers))
+
+-- numbers that were written of cells in this order, or the fault of the first that is out of range
+abbrev pub WritesNumbers : {N : Type 0} → ℕ → (N → ℤ) → Order → List ℤ → List N → Matrix → ℕ → ℕ → Type 0
+WritesNumbers bits value order cells numbers m r w =
+    (m ≡ record { rows = r; cols = w; cells = map value numbers })
+    × (map value numbers ≡ row_by_row r w (cell_at order r w cells)) ×
+    (fault_of bits r w (exactly (cell_at order r w cells)) ≡ None)
+
+abbrev pub MeetsFault : ℕ → Order → List ℤ → OpFault → ℕ → ℕ → Type 0
+MeetsFault bits order cells fault r w = fault_of bits r w (exactly (cell_at order r w cells)) ≡ Some fault
+
+pub numbers_named : {N : Type 0} (bits : ℕ) (value : N → ℤ) (order : Order) (lines : Lines) (f : ℕ → ℕ → ℤ)
+    (cells : List ℤ) (numbers : List N) (m : Matrix) (r w : ℕ)
+    → r ≡ rows_in order lines → w ≡ cols_in order lines → 1 ≤ cols_in order lines → IsSquare order
+    (rows_in order lines) (cols_in order lines)
+    → AreWritten lines.count lines.outer f cells → WritesNumbers bits value order cells numbers m r w
+    → AnswersEntries bits (rows_in order lines) (cols_in order lines) (entry_by_lines order f) (Ok m)
+numbers_named bits value order lines f cells numbers m r w row_is col_is some square are writes =
+    let rows = rows_in order lines in
+    let cols = cols_in order lines in
+    let all : WritesNumbers bits value order cells numbers m rows cols =
+    subst (λ (k : ℕ). WritesNumbers bits value order cells numbers m k cols) row_is
+    (subst (λ (k : ℕ). WritesNumbers bits value order cells numbers m r k) col_is writes) in
+    entries_named bits rows cols (cell_at order rows cols cells) (entry_by_lines order f) (Ok m) some
+    (cell_is order lines f cells square are)
+    (all.0 ∙ ap (λ (zs : List ℤ). record { rows = rows; cols = cols; cells = zs }) all.1, all.2)
+
+pub fault_named : (bits : ℕ) (order : Order) (lines : Lines) (f : ℕ → ℕ → ℤ) (cells : List ℤ) (fault : OpFault)
+    (r w : ℕ)
+    → r ≡ rows_in order lines → w ≡ cols_in order lines → 1 ≤ cols_in order lines → IsSquare order
+    (rows_in order lines) (cols_in order lines)
+    → AreWritten lines.count lines.outer f cells → MeetsFault bits order cells fault r w
+    → AnswersEntries bits (rows_in order lines) (cols_in order lines) (entry_by_lines order f) (Err (Op fault))
+fault_named bits order lines f cells fault r w row_is col_is some square are meets =
+    let rows = rows_in order lines in
+    let cols = cols_in order lines in
+    entries_named bits rows cols (cell_at order rows cols cells) (entry_by_lines order f) (Err (Op fault)) some
+    (cell_is order lines f cells square are)
+    (subst (λ (k : ℕ). MeetsFault bits order cells fault k cols) row_is
+    (subst (λ (k : ℕ). MeetsFault bits order cells fault r k) col_is meets))
+
+-- a table times the columns of a matrix
+pub right_is : (flipped : Bool) (parts : List LayoutPart) (lines : Lines) (xs : List ℤ) (b : Matrix) → lines.inner
+    ≡ b.rows
+    → ((j i : ℕ) → j < b.cols → i < b.rows → at xs (j * b.rows + i) ≡ entry b i j) → (i j : ℕ) → j < b.cols
+    → line_times flipped parts lines xs j i ≡ product_entry b.rows (entry_turned flipped parts) (entry b) i j
+right_is flipped parts lines xs b inner columns i j col =
+    ap (λ (n : ℕ). sum_to (λ k. entry_turned flipped parts i k *ℤ at xs (j * n + k)) n) inner
+    ∙ sum_to-same (λ k. entry_turned flipped parts i k *ℤ at xs (j * b.rows + k))
+    (λ k. entry_turned flipped parts i k *ℤ entry b k j) b.rows
+    (λ k lt. ap (λ (z : ℤ). entry_turned flipped parts i k *ℤ z) (columns j k col lt))
+
+-- an entry of the transpose of the transpose
+turned_back : (flipped : Bool) (parts : List LayoutPart) (i k : ℕ) → entry_turned (not flipped) parts i k
+    ≡ entry_turned flipped parts k i
+turned_back true parts i k = refl
+turned_back false parts i k = refl
+
+-- the rows of a matrix times a table
+pub left_is : (flipped : Bool) (parts : List LayoutPart) (lines : Lines) (a : Matrix) → lines.inner ≡ a.cols → (i j : ℕ)
+    → line_times (not flipped) parts lines a.cells i j ≡ product_entry a.cols (entry a) (entry_turned flipped parts) i j
+left_is flipped parts lines a inner i j =
+    ap (λ (n : ℕ). sum_to (λ k. entry_turned (not flipped) parts j k *ℤ at a.cells (i * n + k)) n) inner
+    ∙ sum_to-same (λ k. entry_turned (not flipped) parts j k *ℤ entry a i k)
+    (λ k. entry a i k *ℤ entry_turned flipped parts k j) a.cols
+    (λ k lt. *ℤ_comm (entry_turned (not flipped) parts j k) (entry a i k) ∙ ap (λ (z : ℤ). entry a i k *ℤ z)
+    (turned_back flipped parts j k))
+
+pub either_some : (b : Bool) (m n : ℕ) → 1 ≤ m → 1 ≤ n → 1 ≤ cond b m n
+either_some true m n some also = some
+either_some false m n some also = also
+
+-- numbers that were written of cells that are these entries, and the fault of the first of those
+pub numbers_at : {N : Type 0} (bits : ℕ) (value : N → ℤ) (order : Order) (cells : List ℤ) (numbers : List N)
+    (m : Matrix) (r w : ℕ) (g : ℕ → ℕ → ℤ)
+    → 1 ≤ w → ((i j : ℕ) → i < r → j < w → cell_at order r w cells i j ≡ g i j)
+    → WritesNumbers bits value order cells numbers m r w
+    → AnswersEntries bits r w g (Ok m)
+numbers_at bits value order cells numbers m r w g some same writes =
+    entries_named bits r w (cell_at order r w cells) g (Ok m) some same
+    (writes.0 ∙ ap (λ (zs : List ℤ). record { rows = r; cols = w; cells = zs }) writes.1, writes.2)
+
+pub fault_met : (bits : ℕ) (order : Order) (cells : List ℤ) (fault : OpFault) (r w : ℕ) (g : ℕ → ℕ → ℤ)
+    → 1 ≤ w → ((i j : ℕ) → i < r → j < w → cell_at order r w cells i j ≡ g i j) → MeetsFault bits order cells fault r w
+    → AnswersEntries bits r w g (Err (Op fault))
+fault_met bits order cells fault r w g some same meets = entries_named bits r w (cell_at order r w cells) g
+    (Err (Op fault)) some same meets

@@ -1,0 +1,9 @@
+pub mod PartSums
+pub mod ColumnSums
+pub mod ColumnsSet
+pub mod LinesWritten
+pub mod LinesRead
+pub mod Firsts
+pub mod Answered
+pub mod Dense
+pub mod Mirrors

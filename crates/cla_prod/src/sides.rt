@@ -1,0 +1,153 @@
+//! Products of a table and a dense matrix, from either side.
+
+ghost use Rattle.std.specs.Prelude.{◌≡◌, ◌≤◌, ◌*◌, length, map};
+ghost use Rattle.cla_spec.specs.Matrix.{most_cells, entry};
+ghost use Rattle.cla_num.specs.Bits.{IsSupported};
+ghost use Rattle.cla_num.specs.Counts.{AreBelow, kernel_bound};
+ghost use Rattle.cla_layout.specs.Values.{values_of};
+ghost use Rattle.cla_coded.specs.Parts.{parts_of};
+ghost use Rattle.cla_coded.specs.Tables.{rows_of_table, cols_of_table, table_entry};
+ghost use Rattle.cla_meaning.specs.Entries.{product_entry};
+ghost use Rattle.cla_prod.specs.Answers.{AnswersEntries, CountsMults};
+ghost use Rattle.cla_prod.specs.Lines.{AreLines, rows_in, cols_in, entry_by_lines, line_times, IsSquare};
+
+use crate::lines::{Lines, columns_of, most_tuples, times_lines};
+use crate::numbers::{Order, numbers_of};
+use cla_coded::{Part, Table};
+use cla_group::Group;
+use cla_num::{Dense, Meter, Number, Refused, Wide};
+use std::alloc::Global;
+
+/// The product of a table and a dense matrix. Refused exactly where an exact entry isn't in range, at the
+/// first such entry row by row; no partial sum is tested for range.
+///
+/// Each tuple is multiplied once with its part of each column of `b`, and what it gives is scattered over
+/// the rows that have it (PVLDB 9(12), section 3). A flipped table gathers the column over the rows of each
+/// tuple and multiplies after. So it makes as many multiplications as the dictionaries have values for each
+/// column of `b`, and one scatter, or one gather, for each column and group.
+///
+/// All buffers are taken first: the exact and the final entries, the columns of `b`, and one item for each
+/// tuple of a group.
+pub fn right<N: Number, G: Group<N>>(
+    alloc: Global,
+    a: &Table<N, G>,
+    b: &Dense<N>,
+    meter: &mut Meter,
+) -> Result<Dense<N>, Refused>
+    requires bits { IsSupported N.BITS }
+    requires inner { cols_of_table a.now ≡ b.now.rows }
+    requires few { rows_of_table a.now * b.now.cols ≤ most_cells }
+    requires room { AreBelow kernel_bound meter.old }
+    ensures product { let exact = product_entry b.now.rows (table_entry G.codes G.dictionary a.now) (entry b.now) in
+        AnswersEntries N.BITS (rows_of_table a.now) b.now.cols exact result }
+    ensures counts { let values = values_of (parts_of G.codes G.dictionary a.now.parts) in
+        CountsMults (values * b.now.cols) result meter.old meter.new }
+{
+    let Ok(columns) = columns_of(alloc, b) else {
+        return Err(Refused::Memory);
+    };
+    let lines = Lines {
+        count: b.cols(),
+        inner: b.rows(),
+        outer: a.rows(),
+    };
+    product_by_lines(
+        alloc,
+        a.parts(),
+        a.flipped(),
+        lines,
+        &columns,
+        Order::Columns,
+        meter,
+    )
+}
+
+/// The product of a dense matrix and a table. Refused exactly where an exact entry isn't in range, at the
+/// first such entry row by row; no partial sum is tested for range.
+///
+/// Each row of `a` is gathered over the rows of each tuple, and the tuples are multiplied after (PVLDB
+/// 9(12), section 3). A flipped table multiplies its tuples first and scatters what they give. So it makes
+/// as many multiplications as the dictionaries have values for each row of `a`, and one gather, or one
+/// scatter, for each row and group.
+///
+/// All buffers are taken first: the exact and the final entries, and one item for each tuple of a group.
+pub fn left<N: Number, G: Group<N>>(
+    alloc: Global,
+    a: &Dense<N>,
+    b: &Table<N, G>,
+    meter: &mut Meter,
+) -> Result<Dense<N>, Refused>
+    requires bits { IsSupported N.BITS }
+    requires inner { a.now.cols ≡ rows_of_table b.now }
+    requires few { a.now.rows * cols_of_table b.now ≤ most_cells }
+    requires room { AreBelow kernel_bound meter.old }
+    ensures product { let exact = product_entry a.now.cols (entry a.now) (table_entry G.codes G.dictionary b.now) in
+        AnswersEntries N.BITS a.now.rows (cols_of_table b.now) exact result }
+    ensures counts { let values = values_of (parts_of G.codes G.dictionary b.now.parts) in
+        CountsMults (values * a.now.rows) result meter.old meter.new }
+{
+    let lines = Lines {
+        count: a.rows(),
+        inner: a.cols(),
+        outer: b.cols(),
+    };
+    product_by_lines(
+        alloc,
+        b.parts(),
+        !b.flipped(),
+        lines,
+        a.cells(),
+        Order::Rows,
+        meter,
+    )
+}
+
+// The matrix whose rows, or columns, are the products of a base, or of its transpose, and these lines.
+fn product_by_lines<N: Number, G: Group<N>>(
+    alloc: Global,
+    parts: &[Part<G>],
+    turned: bool,
+    lines: Lines,
+    items: &[N],
+    order: Order,
+    meter: &mut Meter,
+) -> Result<Dense<N>, Refused>
+    requires bits { IsSupported N.BITS }
+    requires lines { let parts = parts_of G.codes G.dictionary parts.now in
+        AreLines N.BITS turned parts lines (length items.now) (lines.count * lines.outer) }
+    requires square { IsSquare order (rows_in order lines) (cols_in order lines) }
+    requires room { AreBelow kernel_bound meter.old }
+    ensures product { let parts = parts_of G.codes G.dictionary parts.now in
+        let exact = entry_by_lines order (line_times turned parts lines (map N.value items.now)) in
+        AnswersEntries N.BITS (rows_in order lines) (cols_in order lines) exact result }
+    ensures counts { let values = values_of (parts_of G.codes G.dictionary parts.now) in
+        CountsMults (values * lines.count) result meter.old meter.new }
+{
+    let count = lines.count as usize * lines.outer as usize;
+    let Ok(mut scratch) = Vec::from_elem(alloc, Wide::zero(), most_tuples(parts) as usize) else {
+        return Err(Refused::Memory);
+    };
+    let Ok(mut exact) = Vec::from_elem(alloc, Wide::zero(), count) else {
+        return Err(Refused::Memory);
+    };
+    let Ok(mut numbers) = Vec::from_elem(alloc, items[0], count) else {
+        return Err(Refused::Memory);
+    };
+    times_lines(parts, turned, lines, items, &mut scratch, &mut exact, meter);
+    let (rows, cols) = shape(order, lines);
+    match numbers_of(&exact, order, rows, cols, &mut numbers) {
+        Ok(()) => Ok(Dense::new(rows, cols, numbers)),
+        Err(fault) => Err(Refused::Op(fault)),
+    }
+}
+
+// The rows and columns of the matrix whose lines the products are.
+fn shape(order: Order, lines: Lines) -> (u32, u32)
+    ensures rows { result.0 ≡ rows_in order lines }
+    ensures cols { result.1 ≡ cols_in order lines }
+{
+    match order {
+        Order::Rows | Order::Mirrored => (lines.count, lines.outer),
+        Order::Columns => (lines.outer, lines.count),
+    }
+}

@@ -1,0 +1,69 @@
+//! Products of two tables.
+
+ghost use Rattle.std.specs.Prelude.{◌≡◌, ◌≤◌, ◌*◌, min};
+ghost use Rattle.cla_spec.specs.Matrix.{most_cells};
+ghost use Rattle.cla_num.specs.Bits.{IsSupported};
+ghost use Rattle.cla_num.specs.Counts.{AreBelow, kernel_bound};
+ghost use Rattle.cla_layout.specs.Values.{values_of};
+ghost use Rattle.cla_coded.specs.Parts.{parts_of};
+ghost use Rattle.cla_coded.specs.Tables.{rows_of_table, cols_of_table, table_entry};
+ghost use Rattle.cla_meaning.specs.Entries.{product_entry};
+ghost use Rattle.cla_prod.specs.Answers.{AnswersEntries, CountsMults};
+
+use crate::sides::{left, right};
+use cla_coded::Table;
+use cla_group::Group;
+use cla_num::{Dense, Meter, Number, Refused};
+use std::alloc::Global;
+
+/// The product of two tables. Refused exactly where an exact entry isn't in range, at the first such entry
+/// row by row; no partial sum is tested for range.
+///
+/// One of the tables is made dense, and the other multiplies its dictionaries: `a` with each column of `b`,
+/// or `b` with each row of `a`, whichever makes fewer multiplications. The buffers are those of [`right`]
+/// or [`left`], and the cells of the table that is made dense.
+pub fn product<N: Number, G: Group<N>, H: Group<N>>(
+    alloc: Global,
+    a: &Table<N, G>,
+    b: &Table<N, H>,
+    meter: &mut Meter,
+) -> Result<Dense<N>, Refused>
+    requires bits { IsSupported N.BITS }
+    requires inner { cols_of_table a.now ≡ rows_of_table b.now }
+    requires few { rows_of_table a.now * cols_of_table b.now ≤ most_cells }
+    requires room { AreBelow kernel_bound meter.old }
+    ensures product { let entry_a = table_entry G.codes G.dictionary a.now in
+        let entry_b = table_entry H.codes H.dictionary b.now in
+        let exact = product_entry (cols_of_table a.now) entry_a entry_b in
+        AnswersEntries N.BITS (rows_of_table a.now) (cols_of_table b.now) exact result }
+    ensures counts { let values_a = values_of (parts_of G.codes G.dictionary a.now.parts) in
+        let values_b = values_of (parts_of H.codes H.dictionary b.now.parts) in
+        let fewest = min (values_a * cols_of_table b.now) (values_b * rows_of_table a.now) in
+        CountsMults fewest result meter.old meter.new }
+{
+    if values(a) * b.cols() as u64 <= values(b) * a.rows() as u64 {
+        let Ok(b) = b.to_dense(alloc) else {
+            return Err(Refused::Memory);
+        };
+        right(alloc, a, &b, meter)
+    } else {
+        let Ok(a) = a.to_dense(alloc) else {
+            return Err(Refused::Memory);
+        };
+        left(alloc, &a, b, meter)
+    }
+}
+
+// How many values the dictionaries of a table have.
+fn values<N: Number, G: Group<N>>(m: &Table<N, G>) -> u64
+    ensures values { result ≡ values_of (parts_of G.codes G.dictionary m.now.parts) }
+    ensures few { result ≤ most_cells }
+    ensures a_row { 1 ≤ m.now.rows }
+    ensures a_col { 1 ≤ m.now.cols }
+{
+    let mut count = 0;
+    for part in m.parts() {
+        count += part.group.tuples() as u64 * part.group.width() as u64;
+    }
+    count
+}

@@ -1,0 +1,7 @@
+//! Tests of products: values from outside, and that calls succeed.
+#![tactic(auto)]
+
+#[cfg(test)]
+mod checked;
+#[cfg(test)]
+mod product_tests;

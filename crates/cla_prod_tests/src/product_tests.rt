@@ -1,0 +1,205 @@
+//! Products of small tables in groups of each kind, plain and flipped, and of a table of many rows.
+
+ghost use Rattle.std.specs.Prelude.{◌≡◌};
+
+use crate::checked::{Entry, group_of, numbers, table_of};
+use cla_coded::{AnyGroup, Coded, Part};
+use cla_group::Kind;
+use cla_num::{Dense, Meter};
+use cla_prod::{left, product, right, self_product};
+use std::alloc::Global;
+use std::process::Abort;
+use std::test::Fail;
+
+const KINDS: [Kind; 4] = [Kind::Plain, Kind::Codes, Kind::Offsets, Kind::Runs];
+
+const MOST_CELLS: u64 = 1 << 26;
+
+// A product, and how many multiplications it took.
+type Product = (Dense<Entry>, u128);
+
+// It is the matrix of these cells, and it took so many multiplications.
+fn is(
+    rt: &impl Abort,
+    alloc: Global,
+    product: Product,
+    cells: &[i64],
+    mults: u128,
+) -> Result<(), Fail> {
+    let (m, made) = product;
+    assert_eq!(rt; made, mults);
+    assert!(rt; m.cells() == numbers(alloc, cells)?.as_slice());
+    Ok(())
+}
+
+fn right_of(alloc: Global, a: &Coded<Entry>, b: &Dense<Entry>) -> Result<Product, Fail> {
+    if a.cols() != b.rows() || u64::from(a.rows()) * u64::from(b.cols()) > MOST_CELLS {
+        return Err(Fail::new("no product"));
+    }
+    let mut meter = Meter::new();
+    let m = right(alloc, a, b, &mut meter)?;
+    Ok((m, meter.mults()))
+}
+
+fn left_of(alloc: Global, a: &Dense<Entry>, b: &Coded<Entry>) -> Result<Product, Fail> {
+    if a.cols() != b.rows() || u64::from(a.rows()) * u64::from(b.cols()) > MOST_CELLS {
+        return Err(Fail::new("no product"));
+    }
+    let mut meter = Meter::new();
+    let m = left(alloc, a, b, &mut meter)?;
+    Ok((m, meter.mults()))
+}
+
+fn product_of(alloc: Global, a: &Coded<Entry>, b: &Coded<Entry>) -> Result<Product, Fail> {
+    if a.cols() != b.rows() || u64::from(a.rows()) * u64::from(b.cols()) > MOST_CELLS {
+        return Err(Fail::new("no product"));
+    }
+    let mut meter = Meter::new();
+    let m = product(alloc, a, b, &mut meter)?;
+    Ok((m, meter.mults()))
+}
+
+fn self_product_of(alloc: Global, x: &Coded<Entry>) -> Result<Product, Fail> {
+    if x.flipped() || u64::from(x.cols()) * u64::from(x.cols()) > MOST_CELLS {
+        return Err(Fail::new("no product"));
+    }
+    let mut meter = Meter::new();
+    let m = self_product(alloc, x, &mut meter)?;
+    Ok((m, meter.mults()))
+}
+
+fn matrix(alloc: Global, rows: u32, cols: u32, cells: &[i64]) -> Result<Dense<Entry>, Fail> {
+    if rows == 0 || cols == 0 || cells.len() as u64 != u64::from(rows) * u64::from(cols) {
+        return Err(Fail::new("no matrix"));
+    }
+    if cells.len() as u64 > MOST_CELLS {
+        return Err(Fail::new("too many cells"));
+    }
+    Ok(Dense::new(rows, cols, numbers(alloc, cells)?))
+}
+
+fn part_of(
+    alloc: Global,
+    kind: Kind,
+    columns: &[u32],
+    codes: &[u32],
+    values: &[i64],
+) -> Result<Part<AnyGroup<Entry>>, Fail> {
+    let width = u32::try_from(columns.len())?;
+    Ok(Part {
+        columns: Vec::from_slice(alloc, columns)?,
+        group: group_of(alloc, kind, width, codes, values)?,
+    })
+}
+
+// Two columns of 1000 rows, both 1, 2, 1, 2 and so on, in one group or in two.
+fn alternating(alloc: Global, groups: usize) -> Result<Coded<Entry>, Fail> {
+    let mut codes = Vec::new(alloc);
+    for i in 0..1000u32 {
+        codes.push(i % 2)?;
+    }
+    let mut parts = Vec::new(alloc);
+    if groups == 1 {
+        parts.push(part_of(alloc, Kind::Codes, &[0, 1], &codes, &[1, 1, 2, 2])?)?;
+    } else {
+        parts.push(part_of(alloc, Kind::Codes, &[0], &codes, &[1, 2])?)?;
+        parts.push(part_of(alloc, Kind::Codes, &[1], &codes, &[1, 2])?)?;
+    }
+    table_of(alloc, 1000, 2, false, parts)
+}
+
+#[test]
+fn many_rows_and_few_multiplications(rt: HostRuntime) -> Result<(), Fail> {
+    let alloc = rt.alloc();
+    let v = matrix(alloc, 2, 1, &[1, 1])?;
+    let ones = matrix(alloc, 1, 1000, &[1; 1000])?;
+    let mut sums = Vec::new(alloc);
+    for _ in 0..500u32 {
+        sums.extend_from_slice(&[2, 4])?;
+    }
+    for groups in [1, 2] {
+        let x = alternating(alloc, groups)?;
+        is(&rt, alloc, right_of(alloc, &x, &v)?, &sums, 4)?;
+        is(&rt, alloc, left_of(alloc, &ones, &x)?, &[1500, 1500], 4)?;
+    }
+    Ok(())
+}
+
+// The rows (1, 2) and (3, 4) in groups of this kind.
+fn two_by_two(alloc: Global, kind: Kind, flipped: bool) -> Result<Coded<Entry>, Fail> {
+    let mut parts = Vec::new(alloc);
+    parts.push(part_of(alloc, kind, &[0], &[0, 1], &[1, 3])?)?;
+    parts.push(part_of(alloc, kind, &[1], &[0, 1], &[2, 4])?)?;
+    table_of(alloc, 2, 2, flipped, parts)
+}
+
+#[test]
+fn each_kind_plain_and_flipped(rt: HostRuntime) -> Result<(), Fail> {
+    let alloc = rt.alloc();
+    let b = matrix(alloc, 2, 3, &[1, 0, -1, 2, 5, 0])?;
+    let c = matrix(alloc, 3, 2, &[1, 2, 0, 5, -1, 0])?;
+    for kind in KINDS {
+        let x = two_by_two(alloc, kind, false)?;
+        let t = two_by_two(alloc, kind, true)?;
+        is(
+            &rt,
+            alloc,
+            right_of(alloc, &x, &b)?,
+            &[5, 10, -1, 11, 20, -3],
+            12,
+        )?;
+        is(
+            &rt,
+            alloc,
+            right_of(alloc, &t, &b)?,
+            &[7, 15, -1, 10, 20, -2],
+            12,
+        )?;
+        is(
+            &rt,
+            alloc,
+            left_of(alloc, &c, &x)?,
+            &[7, 10, 15, 20, -1, -2],
+            12,
+        )?;
+        is(
+            &rt,
+            alloc,
+            left_of(alloc, &c, &t)?,
+            &[5, 11, 10, 20, -1, -3],
+            12,
+        )?;
+        is(&rt, alloc, product_of(alloc, &x, &x)?, &[7, 10, 15, 22], 8)?;
+        is(&rt, alloc, product_of(alloc, &x, &t)?, &[5, 11, 11, 25], 8)?;
+        is(&rt, alloc, product_of(alloc, &t, &x)?, &[10, 14, 14, 20], 8)?;
+        is(
+            &rt,
+            alloc,
+            self_product_of(alloc, &x)?,
+            &[10, 14, 14, 20],
+            6,
+        )?;
+    }
+    Ok(())
+}
+
+#[test]
+fn the_cheaper_side(rt: HostRuntime) -> Result<(), Fail> {
+    let alloc = rt.alloc();
+    let x = alternating(alloc, 1)?;
+    let t = alternating(alloc, 2)?.flip();
+    is(
+        &rt,
+        alloc,
+        product_of(alloc, &t, &x)?,
+        &[2500, 2500, 2500, 2500],
+        8,
+    )?;
+    is(
+        &rt,
+        alloc,
+        self_product_of(alloc, &x)?,
+        &[2500, 2500, 2500, 2500],
+        6,
+    )
+}
