@@ -1,0 +1,6 @@
+mod Choices
+mod KeptLemmas
+mod FigureLemmas
+mod CutLemmas
+mod Placed
+mod Finished

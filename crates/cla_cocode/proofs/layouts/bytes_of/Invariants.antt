@@ -1,0 +1,11 @@
+use Rattle.std.proofs.Common.{◌≡◌, ◌+◌, ◌*◌, ◌^◌, ◌≤◌, drop, map}
+use Rattle.cla_grouping.specs.Grouping.{bytes_in}
+use Rattle.cla_cocode.specs.Cuts.{group_seen}
+use Rattle.cla_cocode.proofs.layouts.bytes_of.Given as goal
+
+-- the bytes so far and those of the groups that are left are all bytes
+abbrev pub invariant-loop-group : goal.invariant-loop-group
+invariant-loop-group l = record {
+  bytes : l.total + bytes_in (map group_seen (drop l.group-index l.groups)) ≡ bytes_in (map group_seen l.groups);
+  small : l.total ≤ l.group-index * 2 ^ 30;
+}

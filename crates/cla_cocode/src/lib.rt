@@ -1,0 +1,14 @@
+//! Which columns of a matrix are grouped, how each group is kept, and what it takes; and the budget.
+#![tactic(auto)]
+
+mod budget;
+mod choice;
+mod cut;
+mod figures;
+mod kept;
+mod layouts;
+
+pub use budget::{OverBudget, within};
+pub use cut::{Cut, LayoutGroup, size};
+pub use figures::{best, sizes};
+pub use layouts::layout;

@@ -1,0 +1,5 @@
+pub mod Numbering
+pub mod Tuples
+pub mod Sizes
+pub mod Grouping
+pub mod Laws

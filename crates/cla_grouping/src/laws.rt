@@ -1,0 +1,18 @@
+//! Laws of the tuples of columns.
+
+ghost use Rattle.cla_grouping.specs.Laws.{CodesTellTuples, ZerosAreTold, JoinsAgree};
+
+/// Two rows have one code exactly where they have the same tuple.
+pub fn codes_tell_tuples()
+    ensures { CodesTellTuples }
+{}
+
+/// A row has the zero code exactly where it has zeros alone.
+pub fn zeros_are_told()
+    ensures { ZerosAreTold }
+{}
+
+/// To join the tuples of two lists of columns is to ask the rows anew for both.
+pub fn joins_agree()
+    ensures { JoinsAgree }
+{}
