@@ -98,7 +98,7 @@ halts_in bits t o xs ms old new out out' (halted.Operator place fault) (unfinish
     (reads, cause),
     (
       runs.1 ∙ sym (ap (λ (es : List Effect). applied es (world_of t out.told)) r.effects),
-      tells.1 ∙ sym (r.line ∙ ap line_after runs.0),
+      ap Some tells.1 ∙ sym (r.line ∙ ap line_after runs.0),
     ),
   ),
 )
@@ -206,9 +206,9 @@ line_ends : (o : Outcome) (told told' : Told) (old new : State) (out out' err er
 line_ends o told told' old new out out' err err' ending line status result may whole (inl h) = rw h.0 (whole h.1)
 line_ends o told told' old new out out' err err' ending line status result may whole (inr h) = rw h.0 (ending, (Some line, may, h.1))
 
--- a refusal's line, or none
-refusal_ends : (o : Outcome) (told told' : Told) (old new : State) (out out' err err' : Written) (status : Status) (line : Option (List ℕ))
-    → IsRefusal status → o.status ≡ status → MayEnd o told told' old new out out' Settled line → HasLine line err err'
+-- a refusal's line
+refusal_ends : (o : Outcome) (told told' : Told) (old new : State) (out out' err err' : Written) (status : Status) (line : List ℕ)
+    → IsRefusal status → o.status ≡ status → MayEnd o told told' old new out out' Settled (Some line) → HasLine (Some line) err err'
     → Ends o told told' old new out out' err err' status (ending_of status)
 refusal_ends o told told' old new out out' err err' status line refuses same may has =
     rw (settled status refuses) (same, (may.0, (may.1.0, refl)), subst (λ (l : Option (List ℕ)). HasLine l err err') may.1.1 has)
@@ -217,11 +217,9 @@ refusal_ends o told told' old new out out' err err' status line refuses same may
 tells_end : (o : Outcome) (told told' : Told) (old new : State) (out out' err err' : Written) (e : Unfinished) (result : Status)
     → Comes {U = Unit {0}} o told told' old new out out' (Err e) → HasEnding {U = Unit {0}} old new out.faults out'.faults (Err e)
     → Tells e err err' result → Ends o told told' old new out out' err err' result (ending_of result)
-tells_end o told told' old new out out' err err' (unfinished.Refused status None) result comes ending tells = rw tells.0
-    (refusal_ends o told told' old new out out' err err' status None ending.0 comes.0 comes.1 tells.1)
-tells_end o told told' old new out out' err err' (unfinished.Refused status (Some line)) result comes ending tells =
+tells_end o told told' old new out out' err err' (unfinished.Refused status line) result comes ending tells =
     line_ends o told told' old new out out' err err' Settled line status result comes.1
-    (λ has. refusal_ends o told told' old new out out' err err' status (Some line) ending.0 comes.0 comes.1 has) tells
+    (λ has. refusal_ends o told told' old new out out' err err' status line ending.0 comes.0 comes.1 has) tells
 tells_end o told told' old new out out' err err' (unfinished.Unread line) result comes ending tells =
     line_ends o told told' old new out out' err err' ReadFailed line answer.ReadFault result comes (λ has. (Some line, comes, has)) tells
 tells_end o told told' old new out out' err err' unfinished.OutputUnwritten result comes ending tells =
@@ -305,11 +303,9 @@ refusal_counts s counts before now refuses h = h
 unfinished_counts_in : (counts before now : Counts) (old new : State) (f f' : ℕ) (err err' : Written) (e : Unfinished) (result : Status)
     → HasCounts {U = Unit {0}} counts before now (Err e) → HasEnding {U = Unit {0}} old new f f' (Err e) → Tells e err err' result
     → CountsCome counts before now result
-unfinished_counts_in counts before now old new f f' err err' (unfinished.Refused s None) result h ending tells = rw tells.0
+unfinished_counts_in counts before now old new f f' err err' (unfinished.Refused s line) result h ending (inl told) = rw told.0
     (refusal_counts s counts before now ending.0 h)
-unfinished_counts_in counts before now old new f f' err err' (unfinished.Refused s (Some line)) result h ending (inl told) = rw told.0
-    (refusal_counts s counts before now ending.0 h)
-unfinished_counts_in counts before now old new f f' err err' (unfinished.Refused s (Some line)) result h ending (inr told) = rw told.0 h
+unfinished_counts_in counts before now old new f f' err err' (unfinished.Refused s line) result h ending (inr told) = rw told.0 h
 unfinished_counts_in counts before now old new f f' err err' (unfinished.Unread line) result h ending (inl told) = rw told.0 h
 unfinished_counts_in counts before now old new f f' err err' (unfinished.Unread line) result h ending (inr told) = rw (told.0, h)
     (none_counted counts before)
@@ -330,10 +326,9 @@ unfinished_counts bits words name (Some t) before now old new f f' err err' e re
 
 pub unfinished_faults : (old new : State) (f f' : ℕ) (err err' : Written) (e : Unfinished) (result : Status)
     → HasEnding {U = Unit {0}} old new f f' (Err e) → Tells e err err' result → FaultsCome old new f f' (ending_of result)
-unfinished_faults old new f f' err err' (unfinished.Refused s None) result ending tells = rw (tells.0, settled s ending.0) ending.1
-unfinished_faults old new f f' err err' (unfinished.Refused s (Some line)) result ending (inl told) = rw (told.0, settled s ending.0)
+unfinished_faults old new f f' err err' (unfinished.Refused s line) result ending (inl told) = rw (told.0, settled s ending.0)
     ending.1
-unfinished_faults old new f f' err err' (unfinished.Refused s (Some line)) result ending (inr told) = rw told.0 tt
+unfinished_faults old new f f' err err' (unfinished.Refused s line) result ending (inr told) = rw told.0 tt
 unfinished_faults old new f f' err err' (unfinished.Unread line) result ending (inl told) = rw told.0 ending.0
 unfinished_faults old new f f' err err' (unfinished.Unread line) result ending (inr told) = rw told.0 tt
 unfinished_faults old new f f' err err' unfinished.OutputUnwritten result ending (inl told) = rw told.0 ending.0
@@ -352,8 +347,7 @@ line_of_no_usage line err err' s result other (inr told) e = (let both = sym tol
 -- accepted words don't come to nothing
 pub no_usage : (old new : State) (f f' : ℕ) (err err' : Written) (e : Unfinished) (result : Status)
     → HasEnding {U = Unit {0}} old new f f' (Err e) → Tells e err err' result → result ≡ answer.Usage → ⊥
-no_usage old new f f' err err' (unfinished.Refused s None) result ending tells e = no_refusal s ending.0 (sym tells.0 ∙ e)
-no_usage old new f f' err err' (unfinished.Refused s (Some line)) result ending tells e = line_of_no_usage line err err' s result
+no_usage old new f f' err err' (unfinished.Refused s line) result ending tells e = line_of_no_usage line err err' s result
     (no_refusal s ending.0) tells e
 no_usage old new f f' err err' (unfinished.Unread line) result ending tells e = line_of_no_usage line err err' answer.ReadFault result
     (λ h. absurd (cc)) tells e

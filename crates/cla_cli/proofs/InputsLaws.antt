@@ -67,8 +67,10 @@ one_more done m a b all count next = omega (arith, length-append done (m ∷ [])
 pub reads_on : (a b c : State) → OnlyReads a b → OnlyReads b c → OnlyReads a c
 reads_on a b c first then = record {
   told = then.told ∙ first.told;
+  writing = then.writing ∙ first.writing;
   steady = then.steady ∙ first.steady;
   read_faults = omega (arith, first.read_faults, then.read_faults);
+  write_faults = then.write_faults ∙ first.write_faults;
   misses = omega (arith, first.misses, then.misses);
 }
 

@@ -2,8 +2,6 @@ pub mod Examples
 pub mod NeededLaws
 pub mod ReadLaws
 pub mod EndLaws
-pub mod ProductLaws
-pub mod FirstLaws
 pub mod TableLaws
 pub mod RunLaws
 pub mod EvaluateLaws

@@ -3,32 +3,26 @@ use Rattle.std.proofs.Common.{false, ◌≡◌, ℕ, ◌<◌, ◌≤◌, List, [
 use Rattle.std.specs.FinMap as fin
 use Rattle.cla_spec.specs.Files.{Told}
 use Rattle.cla_spec.specs.Matrix.{Matrix}
-use Rattle.cla_spec.specs.ArrayFile.{array_in}
-use Rattle.cla_spec.proofs.ArrayFileLaws.{array_in-sound, array_in-complete}
 use Rattle.cla_io.specs.State.{Reading, left_where_told}
 use Rattle.cla_io.specs.Lines.{Progress, ahead_of, TakesWholeWhereTold}
 use Rattle.cla_io.specs.declared.stop.InFault.TheVariants as input
-use Rattle.cla_mtx.specs.declared.fault.MtxFault.{MtxFault}
-use Rattle.cla_mtx.specs.declared.fault.MtxFault.TheVariants.{Banner}
-use Rattle.cla_mtx.specs.Table.{ReadsArrayFile}
+use Rattle.cla_market.specs.declared.fault.MtxFault.{MtxFault}
+use Rattle.cla_market.specs.Texts.{Spells}
+use Rattle.cla_mtx.specs.Reading.{ReadsTextWhereTold}
 use Rattle.cla_cli.specs.declared.unread.Unread.TheVariants.{Refused}
 use Rattle.cla_cli.specs.declared.unread.TooLong.{TooLong}
-use Rattle.cla_cli.specs.Outcome.{script_limit, table_limit}
+use Rattle.cla_cli.specs.Limits.{script_limit, table_limit}
 use Rattle.cla_cli.specs.Needed.{Opens, IsText, ReadsText, ReadsTable}
 
 -- an input that was just made of an opened file
 abbrev pub fresh : ℕ → Progress
-fresh limit = record { held = []; at = 0; limit = limit; line = []; lines = 0; ended = false }
+fresh limit = record { ahead = []; at = 0; limit = limit; line = []; lines = 0; ended = false }
 
 -- it has the whole file ahead
 fresh_ahead : (told : Told) (told' : Option Told) (reading : Option Reading) (name text : List ℕ) (limit : ℕ) → told' ≡ Some told
     → reading ≡ Some (record { name = name; place = 0 }) → fin.get told name ≡ Some text
     → ahead_of (fresh limit) (left_where_told told' reading) ≡ Some text
 fresh_ahead told told' reading name text limit e f h = rw (e, f, h) refl
-
-none_of : {X : Type 0} (o : Option X) → ((x : X) → o ≡ Some x → ⊥) → o ≡ None
-none_of None h = refl
-none_of (Some x) h = absurd (h x refl)
 
 is_text : (text : List ℕ) (q : Progress) (bytes : Vec ℕ Global) (o2 : Option (List ℕ)) → length bytes.items ≤ script_limit
     → TakesWholeWhereTold (fresh script_limit) q (Some text) o2 (Ok bytes) → IsText text bytes
@@ -62,32 +56,16 @@ text_too_long (Some t) told' reading name p q o2 fault same opens start limit ta
     let size : q.limit ≡ script_limit = limit ∙ ap (λ (x : Progress). x.limit) start in
     (opens.1.0, opens.1.1, is_too_long opens.1.0 q o2 size (rw (start, ahead) at takes))
 
-is_table : (bits : ℕ) (text : List ℕ) (m : Matrix) (o2 : Option (List ℕ)) → bits ≤ 63
-    → ReadsArrayFile bits table_limit (Some text) o2 (Ok m) → array_in bits table_limit text ≡ Some m
-is_table bits text m None few h = absurd h
-is_table bits text m (Some after) few h = array_in-complete bits table_limit text m few h.0
-
-isnt_table : (bits n : ℕ) (text : List ℕ) (o2 : Option (List ℕ)) → ReadsArrayFile bits table_limit (Some text) o2 (Err (Banner n))
-    → (Banner n ≡ Banner 1) × (array_in bits table_limit text ≡ None)
-isnt_table bits n text None h = absurd h
-isnt_table bits n text (Some after) h =
-    (ap Banner h.0, none_of (array_in bits table_limit text) (λ m e. h.1 m (array_in-sound bits table_limit text m e)))
+is_table : (bits : ℕ) (text : List ℕ) (m : Matrix) (o2 : Option (List ℕ))
+    → ReadsTextWhereTold bits table_limit (Some text) o2 (Ok m) → Spells bits table_limit text m
+is_table bits text m None h = absurd h
+is_table bits text m (Some after) h = h.0
 
 -- a table that was read
 pub table_read : (bits : ℕ) (told told' : Option Told) (reading : Option Reading) (name : List ℕ) (m : Matrix) (p : Progress)
-    (o2 : Option (List ℕ)) → bits ≤ 63 → told' ≡ told → Opens {R = MtxFault} told name reading (Ok tt) → p ≡ fresh table_limit
-    → ReadsArrayFile bits p.limit (ahead_of p (left_where_told told' reading)) o2 (Ok m) → ReadsTable bits told name (Ok m)
-table_read bits None told' reading name m p o2 few same opens start reads = tt
-table_read bits (Some t) told' reading name m p o2 few same opens start reads =
-    let ahead = fresh_ahead t told' reading name opens.1.0 table_limit same opens.0 opens.1.1 in
-    (opens.1.0, opens.1.1, is_table bits opens.1.0 m o2 few (rw (start, ahead) at reads))
-
--- a table that was refused
-pub table_refused : (bits n : ℕ) (told told' : Option Told) (reading : Option Reading) (name : List ℕ) (p : Progress)
     (o2 : Option (List ℕ)) → told' ≡ told → Opens {R = MtxFault} told name reading (Ok tt) → p ≡ fresh table_limit
-    → ReadsArrayFile bits p.limit (ahead_of p (left_where_told told' reading)) o2 (Err (Banner n))
-    → ReadsTable bits told name (Err (Refused (Banner n)))
-table_refused bits n None told' reading name p o2 same opens start reads = tt
-table_refused bits n (Some t) told' reading name p o2 same opens start reads =
+    → ReadsTextWhereTold bits p.limit (ahead_of p (left_where_told told' reading)) o2 (Ok m) → ReadsTable bits told name (Ok m)
+table_read bits None told' reading name m p o2 same opens start reads = tt
+table_read bits (Some t) told' reading name m p o2 same opens start reads =
     let ahead = fresh_ahead t told' reading name opens.1.0 table_limit same opens.0 opens.1.1 in
-    (opens.1.0, opens.1.1, isnt_table bits n opens.1.0 o2 (rw (start, ahead) at reads))
+    (opens.1.0, opens.1.1, is_table bits opens.1.0 m o2 (rw (start, ahead) at reads))

@@ -7,22 +7,21 @@ use Rattle.std.proofs.lemmas.Bool.{le-leb}
 use Rattle.std.proofs.lemmas.Bool.Decides.{nat_tests}
 use Rattle.cla_spec.specs.Files.{Told}
 use Rattle.cla_spec.specs.Matrix.{Matrix}
-use Rattle.cla_spec.specs.ArrayFile.{array_in}
 use Rattle.cla_io.specs.State.{Reading}
-use Rattle.cla_mtx.specs.declared.fault.MtxFault.{MtxFault}
+use Rattle.cla_market.specs.declared.fault.MtxFault.{MtxFault}
+use Rattle.cla_market.specs.Texts.{matrix_in, fault_in, first_bad_line}
 use Rattle.cla_grammar.specs.Tree.{Statement}
 use Rattle.cla_cli.specs.declared.status.Status.{Status}
-use Rattle.cla_cli.specs.declared.status.Status.TheVariants as answer
-use Rattle.cla_cli.specs.declared.status.FileFault.TheVariants as file
 use Rattle.cla_cli.specs.declared.unread.Unread.{Unread}
 use Rattle.cla_cli.specs.declared.unread.Unread.TheVariants as unread
 use Rattle.cla_cli.specs.declared.unread.TooLong.{TooLong}
 use Rattle.cla_cli.specs.declared.unfinished.Unfinished.{Unfinished}
 use Rattle.cla_cli.specs.declared.unfinished.Unfinished.TheVariants as unfinished
-use Rattle.cla_cli.specs.Outcome.{Outcome, Refusal, refused, needing, missing_refusal, limit_refusal, table_refusal, script_limit, table_limit, unless_refused, checked_script, with_table, with_tables, reads_outcome, script_outcome}
+use Rattle.cla_cli.specs.Limits.{script_limit, table_limit}
+use Rattle.cla_cli.specs.Outcome.{Outcome, Refusal, refused, needing, missing_refusal, limit_refusal, table_refusal, unless_refused, checked_script, with_table, with_tables, reads_outcome, script_outcome}
 use Rattle.cla_cli.specs.Needed.{ReadsNoOther, ReadsText, ReadsTable}
 use Rattle.cla_cli.specs.Run.{ReadsOnly}
-use Rattle.cla_cli.specs.Parts.{TellsUnread, refusal_of_text, refusal_of_table, IsNeeded, Reaches, Lets, Passes}
+use Rattle.cla_cli.specs.Parts.{TellsUnread, refusal_of_text, IsNeeded, Reaches, Lets, Passes}
 
 -- checks that pass lead from one outcome to the next
 pub reaches_itself : (o : Outcome) → Reaches o o
@@ -70,7 +69,7 @@ passes_lets view next checked (Ok x) h = subst (λ c. Reaches (unless_refused c 
     (reaches_itself (next (view x)))
 passes_lets view next checked (Err (unfinished.Refused status line)) h =
     subst (λ c. Lets (λ x. next (view x)) (unless_refused c next) (Err (unfinished.Refused status line))) (sym h.1.3)
-    (sym h.1.1, refl, sym h.1.2)
+    (sym h.1.1, refl, ap Some (sym h.1.2))
 passes_lets view next checked (Err (unfinished.Unread line)) h = absurd h
 passes_lets view next checked (Err unfinished.OutputUnwritten) h = absurd h
 passes_lets view next checked (Err unfinished.Memory) h = tt
@@ -94,11 +93,11 @@ script_read view bits told name text bytes r there same short passes =
     (passes_lets view (reads_outcome bits told) (checked_script bits text) r (rw same at passes))
 
 -- what a refusal leaves, whatever the files that were read
-refused_as : (o : Outcome) (refusal : Refusal) (names : List (List ℕ)) (status : Status) (line : Option (List ℕ))
+refused_as : (o : Outcome) (refusal : Refusal) (names : List (List ℕ)) (status : Status) (line : List ℕ)
     → o ≡ record (refused refusal) { needed = names } → status ≡ refusal.status → line ≡ refusal.line
-    → (o.status ≡ status) × (o.effects ≡ []) × (o.line ≡ line)
+    → (o.status ≡ status) × (o.effects ≡ []) × (o.line ≡ Some line)
 refused_as o refusal names status line e a b =
-    (ap (λ (x : Outcome). x.status) e ∙ sym a, ap (λ (x : Outcome). x.effects) e, ap (λ (x : Outcome). x.line) e ∙ sym b)
+    (ap (λ (x : Outcome). x.status) e ∙ sym a, ap (λ (x : Outcome). x.effects) e, ap (λ (x : Outcome). x.line) e ∙ ap Some (sym b))
 
 -- a script that isn't there, or is too long
 script_missing : (bits : ℕ) (told : Told) (name : List ℕ) → fin.get told name ≡ None
@@ -126,7 +125,7 @@ script_unread next bits told name u r h t = absurd t
 
 -- a table that was read
 table_there : (bits : ℕ) (told : Told) (name text : List ℕ) (m : Matrix) (next : Matrix → Outcome) → fin.get told name ≡ Some text
-    → array_in bits table_limit text ≡ Some m → with_table bits told name next ≡ needing name (next m)
+    → matrix_in bits table_limit text ≡ Ok m → with_table bits told name next ≡ needing name (next m)
 table_there bits told name text m next there found = rw (there, found) refl
 
 pub table_read : (bits : ℕ) (told : Told) (name : List ℕ) (m : Matrix) (next : Matrix → Outcome)
@@ -138,20 +137,25 @@ table_missing : (bits : ℕ) (told : Told) (name : List ℕ) (next : Matrix → 
     → with_table bits told name next ≡ record (refused (missing_refusal name)) { needed = name ∷ [] }
 table_missing bits told name next none = rw none refl
 
-table_of_no_form : (bits : ℕ) (told : Told) (name text : List ℕ) (next : Matrix → Outcome) → fin.get told name ≡ Some text
-    → array_in bits table_limit text ≡ None → with_table bits told name next ≡ record (refused table_refusal) { needed = name ∷ [] }
-table_of_no_form bits told name text next there none = rw (there, none) refl
+the_fault : (r : Result Matrix MtxFault) (fault : MtxFault) → fault_in r ≡ Some fault → r ≡ Err fault
+the_fault (Ok m) fault is = (absurd (cc))
+the_fault (Err e) fault is = (cc)
+
+table_of_no_form : (bits : ℕ) (told : Told) (name text : List ℕ) (fault : MtxFault) (next : Matrix → Outcome)
+    → fin.get told name ≡ Some text → first_bad_line bits table_limit text ≡ Some fault
+    → with_table bits told name next ≡ record (refused (table_refusal name fault)) { needed = name ∷ [] }
+table_of_no_form bits told name text fault next there bad =
+    rw (there, the_fault (matrix_in bits table_limit text) fault bad) refl
 
 -- why a table isn't read, as it is told
 pub table_unread : {T : Type 0} (then : T → Outcome) (bits : ℕ) (told : Told) (name : List ℕ) (next : Matrix → Outcome)
-    (u : Unread MtxFault) (r : Unfinished) → ReadsTable bits (Some told) name (Err u) → TellsUnread refusal_of_table name u r
+    (u : Unread MtxFault) (r : Unfinished) → ReadsTable bits (Some told) name (Err u) → TellsUnread (table_refusal name) name u r
     → Lets then (with_table bits told name next) (Err r)
 table_unread then bits told name next u unfinished.Memory h t = tt
 table_unread then bits told name next unread.Missing (unfinished.Refused status line) h t =
     refused_as _ (missing_refusal name) (name ∷ []) status line (table_missing bits told name next h) t.0 t.1
 table_unread then bits told name next (unread.Refused fault) (unfinished.Refused status line) h t =
-    refused_as _ table_refusal (name ∷ []) status line (table_of_no_form bits told name h.0 next h.1 h.2.1)
-    (t.0 ∙ ap (λ (f : MtxFault). answer.BadFile (file.Mtx f)) h.2.0) t.1
+    refused_as _ (table_refusal name fault) (name ∷ []) status line (table_of_no_form bits told name h.0 fault next h.1 h.2) t.0 t.1
 table_unread then bits told name next unread.Fault (unfinished.Unread line) h t = (name, needed_first name _, t)
 table_unread then bits told name next u r h t = absurd t
 

@@ -1,7 +1,6 @@
 pub mod Codes
-pub mod First
-pub mod Products
 pub mod Words
+pub mod Limits
 pub mod Texts
 pub mod Statements
 pub mod Tables

@@ -5,15 +5,14 @@ use Rattle.std.specs.declared.vec.Vec.{Vec}
 use Rattle.std.specs.declared.alloc.Global.{Global}
 use Rattle.cla_spec.specs.Files.{Told}
 use Rattle.cla_spec.specs.Matrix.{Matrix}
-use Rattle.cla_spec.specs.ArrayFile.{array_in}
 use Rattle.cla_io.specs.State.{State, Reading}
 use Rattle.cla_io.specs.Counts.{Rose}
-use Rattle.cla_mtx.specs.declared.fault.MtxFault.{MtxFault}
-use Rattle.cla_mtx.specs.declared.fault.MtxFault.TheVariants as mtx
+use Rattle.cla_market.specs.declared.fault.MtxFault.{MtxFault}
+use Rattle.cla_market.specs.Texts.{Spells, first_bad_line}
 use Rattle.cla_cli.specs.declared.unread.Unread.{Unread}
 use Rattle.cla_cli.specs.declared.unread.Unread.TheVariants.{Missing, Fault, Memory, Refused}
 use Rattle.cla_cli.specs.declared.unread.TooLong.{TooLong}
-use Rattle.cla_cli.specs.Outcome.{script_limit, table_limit}
+use Rattle.cla_cli.specs.Limits.{script_limit, table_limit}
 
 -- a file is missing only where misses rose, and can't be read only where faults of reading rose; each count stays with
 -- every other answer
@@ -62,10 +61,10 @@ ReadsText told name result = ReadsWhereTold IsText IsTooLong told name result
 
 -- a table
 abbrev pub IsTable : ℕ → List ℕ → Matrix → Type 0
-IsTable bits text m = array_in bits table_limit text ≡ Some m
+IsTable bits text m = Spells bits table_limit text m
 
 abbrev pub IsNoTable : ℕ → List ℕ → MtxFault → Type 0
-IsNoTable bits text fault = (fault ≡ mtx.Banner 1) × (array_in bits table_limit text ≡ None)
+IsNoTable bits text fault = first_bad_line bits table_limit text ≡ Some fault
 
 abbrev pub ReadsTable : ℕ → Option Told → List ℕ → Result Matrix (Unread MtxFault) → Type 0
 ReadsTable bits told name result = ReadsWhereTold (IsTable bits) (IsNoTable bits) told name result

@@ -1,13 +1,14 @@
 -- What a command line comes to: its status, its effects, the files that it needs, its counts and its line on standard error.
-use Rattle.std.specs.Prelude.{ℕ, ◌^◌, List, [], ◌∷◌, length, map, Option, Some, None, Bool, Result, Ok, Err, nat_le, if◌then◌else◌}
+use Rattle.std.specs.Prelude.{ℕ, List, [], ◌∷◌, length, map, Option, Some, None, Bool, Result, Ok, Err, nat_le, if◌then◌else◌}
 use Rattle.std.specs.FinMap as fin
 use Rattle.cla_spec.specs.Files.{Told}
 use Rattle.cla_spec.specs.Effects.{Effect}
 use Rattle.cla_spec.specs.Matrix.{Matrix}
-use Rattle.cla_spec.specs.ArrayFile.{array_in}
 use Rattle.cla_num.specs.Counts.{Counts, zero_counts}
 use Rattle.cla_num.specs.declared.fault.OpFault.{OpFault}
-use Rattle.cla_mtx.specs.declared.fault.MtxFault.TheVariants as mtx
+use Rattle.cla_market.specs.declared.fault.MtxFault.{MtxFault}
+use Rattle.cla_market.specs.declared.fault.MtxFault.TheVariants as mtx
+use Rattle.cla_market.specs.Texts.{matrix_in}
 use Rattle.cla_grammar.specs.declared.place.Place.{Place}
 use Rattle.cla_grammar.specs.declared.words.ScriptKind.TheVariants.{Clash}
 use Rattle.cla_grammar.specs.Faults as grammar
@@ -22,16 +23,10 @@ use Rattle.cla_cli.specs.declared.status.Status.TheVariants.{Done, Usage, Missin
 use Rattle.cla_cli.specs.declared.status.BadKind.{BadKind}
 use Rattle.cla_cli.specs.declared.status.BadKind.TheVariants as kind
 use Rattle.cla_cli.specs.declared.status.FileFault.TheVariants as file
+use Rattle.cla_cli.specs.Limits.{script_limit, table_limit}
 use Rattle.cla_cli.specs.Words.{Command, RunScript, accepted_command}
-use Rattle.cla_cli.specs.Texts.{usage_line, missing_line, limit_line, script_line, operator_line}
+use Rattle.cla_cli.specs.Texts.{usage_line, missing_line, limit_line, script_line, table_line, operator_line}
 use Rattle.cla_cli.specs.Statements.{Trace, trace_of, script_work, are_built, files_read}
-
--- how many bytes a script and a table may have
-abbrev pub script_limit : ℕ
-script_limit = 2 ^ 20
-
-abbrev pub table_limit : ℕ
-table_limit = 2 ^ 32
 
 pub record Outcome : Type 0 where
   pub status : Status
@@ -43,14 +38,14 @@ pub record Outcome : Type 0 where
   -- the line on standard error, if there is one
   pub line : Option (List ℕ)
 
--- why a check refuses: the status, and the line that tells it, if there is one
+-- why a check refuses: the status, and the line that tells it
 pub record Refusal : Type 0 where
   pub status : Status
-  pub line : Option (List ℕ)
+  pub line : List ℕ
 
 -- a check refuses
 abbrev pub refused : Refusal → Outcome
-refused refusal = record { status = refusal.status; effects = []; needed = []; counts = zero_counts; line = refusal.line }
+refused refusal = record { status = refusal.status; effects = []; needed = []; counts = zero_counts; line = Some refusal.line }
 
 -- a check reads this file, and others may follow
 abbrev pub needing : List ℕ → Outcome → Outcome
@@ -65,7 +60,7 @@ unless_refused (Err refusal) next = refused refusal
 
 -- the words are no command
 abbrev pub usage_refusal : Refusal
-usage_refusal = record { status = Usage; line = Some usage_line }
+usage_refusal = record { status = Usage; line = usage_line }
 
 abbrev pub unless_usage : Option Command → (Command → Outcome) → Outcome
 unless_usage None next = refused usage_refusal
@@ -73,7 +68,7 @@ unless_usage (Some command) next = next command
 
 -- a file is absent
 abbrev pub missing_refusal : List ℕ → Refusal
-missing_refusal name = record { status = Missing; line = Some (missing_line name) }
+missing_refusal name = record { status = Missing; line = missing_line name }
 
 abbrev pub unless_missing : List ℕ → Option (List ℕ) → (List ℕ → Outcome) → Outcome
 unless_missing name None next = refused (missing_refusal name)
@@ -81,7 +76,7 @@ unless_missing name (Some text) next = next text
 
 -- a text is longer than its limit
 abbrev pub limit_refusal : List ℕ → ℕ → Refusal
-limit_refusal name limit = record { status = Limit; line = Some (limit_line name limit) }
+limit_refusal name limit = record { status = Limit; line = limit_line name limit }
 
 abbrev pub unless_longer : List ℕ → ℕ → List ℕ → Outcome → Outcome
 unless_longer name limit text next = if nat_le (length text) limit then next else refused (limit_refusal name limit)
@@ -91,7 +86,7 @@ place_at line col = record { line = line; col = col }
 
 -- a script is refused at a place
 abbrev pub refusal_at : Place → BadKind → Refusal
-refusal_at place kind = record { status = BadScript place kind; line = Some (script_line place kind) }
+refusal_at place kind = record { status = BadScript place kind; line = script_line place kind }
 
 -- the checks of a script's text: its first refused token, then the files that it both reads and writes
 abbrev pub unless_clash : List Statement → Option Place → Result (List Statement) Refusal
@@ -105,21 +100,27 @@ unless_token (Err fault) = Err (refusal_at fault.place (kind.Script fault.kind))
 abbrev pub checked_script : ℕ → List ℕ → Result (List Statement) Refusal
 checked_script bits text = unless_token (script_in bits text)
 
--- a text is no table of the form that is read; no line tells it today
-abbrev pub table_refusal : Refusal
-table_refusal = record { status = BadFile (file.Mtx (mtx.Banner 1)); line = None }
+-- a text is no table: it passes the limit of cells or of bytes, or has another fault
+abbrev pub table_status : MtxFault → Status
+table_status (mtx.TooLarge rows cols) = Limit
+table_status mtx.TooLong = Limit
+table_status fault = BadFile (file.Mtx fault)
 
-abbrev pub table_or_refusal : Option Matrix → Result Matrix Refusal
-table_or_refusal None = Err table_refusal
-table_or_refusal (Some m) = Ok m
+abbrev pub table_refusal : List ℕ → MtxFault → Refusal
+table_refusal name fault = record { status = table_status fault; line = table_line name fault }
 
-abbrev pub checked_table : ℕ → List ℕ → Result Matrix Refusal
-checked_table bits text = table_or_refusal (array_in bits table_limit text)
+abbrev pub table_or_refusal : List ℕ → Result Matrix MtxFault → Result Matrix Refusal
+table_or_refusal name (Ok m) = Ok m
+table_or_refusal name (Err fault) = Err (table_refusal name fault)
+
+-- the check of a table's text: the matrix that it spells as a Matrix Market file, or its first fault
+abbrev pub checked_table : ℕ → List ℕ → List ℕ → Result Matrix Refusal
+checked_table bits name text = table_or_refusal name (matrix_in bits table_limit text)
 
 -- the table of this name, and the tables of these names one after the other
 abbrev pub with_table : ℕ → Told → List ℕ → (Matrix → Outcome) → Outcome
 with_table bits told name next =
-    needing name (unless_missing name (fin.get told name) (λ text. unless_refused (checked_table bits text) next))
+    needing name (unless_missing name (fin.get told name) (λ text. unless_refused (checked_table bits name text) next))
 
 abbrev pub with_tables : ℕ → Told → List (List ℕ) → (List Matrix → Outcome) → Outcome
 with_tables bits told [] next = next []

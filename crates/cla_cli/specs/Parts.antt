@@ -4,7 +4,6 @@ use Rattle.cla_spec.specs.Files.{Told}
 use Rattle.cla_spec.specs.Effects.{Out}
 use Rattle.cla_num.specs.Counts.{Counts}
 use Rattle.cla_io.specs.State.{State, Reading}
-use Rattle.cla_mtx.specs.declared.fault.MtxFault.{MtxFault}
 use Rattle.cla_grammar.specs.declared.place.Place.{Place}
 use Rattle.cla_script.specs.declared.fault.ScriptFault.{ScriptFault}
 use Rattle.cla_script.specs.declared.fault.ScriptFault.TheVariants as script
@@ -12,7 +11,6 @@ use Rattle.cla_cli.specs.declared.status.Status.{Status}
 use Rattle.cla_cli.specs.declared.status.Status.TheVariants as answer
 use Rattle.cla_cli.specs.declared.status.BadKind.{BadKind}
 use Rattle.cla_cli.specs.declared.status.BadKind.TheVariants as bad
-use Rattle.cla_cli.specs.declared.status.FileFault.TheVariants as file
 use Rattle.cla_cli.specs.declared.unread.Unread.{Unread}
 use Rattle.cla_cli.specs.declared.unread.Unread.TheVariants as unread
 use Rattle.cla_cli.specs.declared.unread.TooLong.{TooLong}
@@ -21,14 +19,15 @@ use Rattle.cla_cli.specs.declared.unfinished.Unfinished.TheVariants as unfinishe
 use Rattle.cla_cli.specs.declared.statements.Halted.{Halted}
 use Rattle.cla_cli.specs.declared.statements.Halted.TheVariants as halted
 use Rattle.cla_cli.specs.Texts.{memory_line, unreadable_line, unwritable_line, missing_line, script_line, operator_line}
-use Rattle.cla_cli.specs.Outcome.{Outcome, Refusal, limit_refusal, refusal_at, script_limit, script_outcome}
+use Rattle.cla_cli.specs.Limits.{script_limit}
+use Rattle.cla_cli.specs.Outcome.{Outcome, Refusal, limit_refusal, refusal_at, script_outcome}
 use Rattle.cla_cli.specs.Run.{Settled, OutOfMemory, ReadFailed, WriteFailed, IsRefusal, Written, MayEnd, FaultsCome, MissesCome, HasLine, HasFrontOfLine, RiseBy, RiseByAtMost, AreNotBelow}
 
 -- A command is done, or why it isn't: each as one ending of its outcome.
 abbrev pub Comes : {U : Type 0} → Outcome → Told → Told → State → State → Written → Written → Result U Unfinished → Type 0
 Comes o told told' old new out out' (Ok u) = (o.status ≡ answer.Done) × MayEnd o told told' old new out out' Settled None
 Comes o told told' old new out out' (Err (unfinished.Refused status line)) = (o.status ≡ status)
-    × MayEnd o told told' old new out out' Settled line
+    × MayEnd o told told' old new out out' Settled (Some line)
 Comes o told told' old new out out' (Err (unfinished.Unread line)) = MayEnd o told told' old new out out' ReadFailed (Some line)
 Comes o told told' old new out out' (Err unfinished.OutputUnwritten) = MayEnd o told told' old new out out' WriteFailed
     (Some (unwritable_line (Out [])))
@@ -74,7 +73,7 @@ IsNeededWhereTold bits name (Some told) reading = IsNeeded (script_outcome bits 
 -- why a file of this name isn't read, as it is told; `refusal` is what a check answers of its text
 abbrev pub TellsUnread : {R : Type 0} → (R → Refusal) → List ℕ → Unread R → Unfinished → Type 0
 TellsUnread refusal name reason unfinished.Memory = Unit {0}
-TellsUnread refusal name unread.Missing (unfinished.Refused status line) = (status ≡ answer.Missing) × (line ≡ Some (missing_line name))
+TellsUnread refusal name unread.Missing (unfinished.Refused status line) = (status ≡ answer.Missing) × (line ≡ missing_line name)
 TellsUnread refusal name (unread.Refused r) (unfinished.Refused status line) = (status ≡ (refusal r).status) × (line ≡ (refusal r).line)
 TellsUnread refusal name unread.Fault (unfinished.Unread line) = line ≡ unreadable_line name
 TellsUnread refusal name reason told = ⊥
@@ -82,12 +81,9 @@ TellsUnread refusal name reason told = ⊥
 abbrev pub refusal_of_text : List ℕ → TooLong → Refusal
 refusal_of_text name fault = limit_refusal name script_limit
 
-abbrev pub refusal_of_table : MtxFault → Refusal
-refusal_of_table fault = record { status = answer.BadFile (file.Mtx fault); line = None }
-
 -- a script is refused at a place, as it is told
 abbrev pub RefusesAt : Place → BadKind → Unfinished → Type 0
-RefusesAt place kind (unfinished.Refused status line) = (status ≡ answer.BadScript place kind) × (line ≡ Some (script_line place kind))
+RefusesAt place kind (unfinished.Refused status line) = (status ≡ answer.BadScript place kind) × (line ≡ script_line place kind)
 RefusesAt place kind unfinished.Memory = Unit {0}
 RefusesAt place kind told = ⊥
 
@@ -100,7 +96,7 @@ TellsFault script.Memory told = told ≡ unfinished.Memory
 abbrev pub Passes : {T X : Type 0} → (T → X) → Result X Refusal → Result T Unfinished → Type 0
 Passes view checked (Ok x) = checked ≡ Ok (view x)
 Passes view checked (Err (unfinished.Refused status line)) = (place : Place) × ((kind : BadKind) × (status ≡ answer.BadScript place kind)
-    × (line ≡ Some (script_line place kind)) × (checked ≡ Err (refusal_at place kind)))
+    × (line ≡ script_line place kind) × (checked ≡ Err (refusal_at place kind)))
 Passes view checked (Err unfinished.Memory) = Unit {0}
 Passes view checked (Err e) = ⊥
 
@@ -115,7 +111,7 @@ pub record Reaches (whole rest : Outcome) : Type 0 where
 -- the checks of a part pass, and what follows decides; or one of them refuses, or a needed file can't be read
 abbrev pub Lets : {T : Type 0} → (T → Outcome) → Outcome → Result T Unfinished → Type 0
 Lets next o (Ok x) = Reaches o (next x)
-Lets next o (Err (unfinished.Refused status line)) = (o.status ≡ status) × (o.effects ≡ []) × (o.line ≡ line)
+Lets next o (Err (unfinished.Refused status line)) = (o.status ≡ status) × (o.effects ≡ []) × (o.line ≡ Some line)
 Lets next o (Err (unfinished.Unread line)) = (file : List ℕ) × Contains o.needed file × (line ≡ unreadable_line file)
 Lets next o (Err unfinished.OutputUnwritten) = ⊥
 Lets next o (Err unfinished.Memory) = Unit {0}
@@ -123,7 +119,7 @@ Lets next o (Err unfinished.Memory) = Unit {0}
 -- why the statements ended before the last one, as it is told
 abbrev pub TellsHalt : Halted → Unfinished → Type 0
 TellsHalt (halted.Operator place fault) (unfinished.Refused status line) = (status ≡ answer.Operator place fault)
-    × (line ≡ Some (operator_line place fault))
+    × (line ≡ operator_line place fault)
 TellsHalt halted.Unwritten unfinished.OutputUnwritten = Unit {0}
 TellsHalt halted.Unwritten unfinished.Memory = ⊥
 TellsHalt halt unfinished.Memory = Unit {0}
@@ -136,8 +132,7 @@ TellsLine line status err err' result = ((result ≡ status) × HasLine (Some li
 
 -- what a command that isn't done tells
 abbrev pub Tells : Unfinished → Written → Written → Status → Type 0
-Tells (unfinished.Refused status None) err err' result = (result ≡ status) × (err'.told ≡ err.told)
-Tells (unfinished.Refused status (Some line)) err err' result = TellsLine line status err err' result
+Tells (unfinished.Refused status line) err err' result = TellsLine line status err err' result
 Tells (unfinished.Unread line) err err' result = TellsLine line answer.ReadFault err err' result
 Tells unfinished.OutputUnwritten err err' result = TellsLine (unwritable_line (Out [])) answer.WriteFault err err' result
 Tells unfinished.Memory err err' result = TellsLine memory_line answer.Memory err err' result

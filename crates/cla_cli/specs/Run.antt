@@ -114,9 +114,12 @@ Completes bits words (Some told) old new before after status =
     (outcome_of bits words told).status ≡ Done → (Rose old.read_faults new.read_faults → ⊥) → (Rose before after → ⊥)
     → (status ≡ Done) ⊎ (status ≡ Memory)
 
--- whether files are steady stays, and no count of theirs falls
+-- No file is being written, whether files are steady stays, and no count of theirs falls; that of faults of writing stays,
+-- since no command writes a file today.
 pub record Keeps (old new : State) : Type 0 where
+  pub writing : new.writing ≡ None
   pub steady : new.steady ≡ old.steady
+  pub write_faults : new.write_faults ≡ old.write_faults
   pub read_faults : old.read_faults ≤ new.read_faults
   pub misses : old.misses ≤ new.misses
 

@@ -10,8 +10,11 @@ use Rattle.cla_grammar.specs.declared.words.ScriptKind.{ScriptKind}
 use Rattle.cla_grammar.specs.declared.words.ScriptKind.TheVariants as kind
 use Rattle.cla_check.specs.declared.fault.ShapeKind.{ShapeKind}
 use Rattle.cla_check.specs.declared.fault.ShapeKind.TheVariants as shape
+use Rattle.cla_market.specs.declared.fault.MtxFault.{MtxFault}
+use Rattle.cla_market.specs.declared.fault.MtxFault.TheVariants as mtx
 use Rattle.cla_cli.specs.declared.status.BadKind.{BadKind}
 use Rattle.cla_cli.specs.declared.status.BadKind.TheVariants.{Script, Shape, Unbuilt}
+use Rattle.cla_cli.specs.Limits.{table_limit}
 
 abbrev pub memory_line : List ℕ
 memory_line = codes "out of memory\n"
@@ -30,8 +33,40 @@ abbrev pub unwritable_line : Effect → List ℕ
 unwritable_line (Out text) = codes "cannot write output\n"
 unwritable_line (File name bytes) = codes "cannot write " ++ name ++ codes "\n"
 
+abbrev pub more_bytes_text : ℕ → List ℕ
+more_bytes_text limit = codes "more than " ++ decimal_of (pos limit) ++ codes " bytes"
+
 abbrev pub limit_line : List ℕ → ℕ → List ℕ
-limit_line name bytes = codes "limit " ++ name ++ codes ": more than " ++ decimal_of (pos bytes) ++ codes " bytes\n"
+limit_line name limit = codes "limit " ++ name ++ codes ": " ++ more_bytes_text limit ++ codes "\n"
+
+-- what is wrong with a line of a table
+abbrev pub bad_line_text : ℕ → List ℕ → List ℕ
+bad_line_text n kind = codes "line " ++ decimal_of (pos n) ++ codes ": " ++ kind
+
+-- what is wrong with a table: its first bad line, or the limit that it passes. A text has no fault of the last two kinds.
+abbrev pub table_fault_text : MtxFault → List ℕ
+table_fault_text (mtx.Banner n) = bad_line_text n (codes "Banner")
+table_fault_text (mtx.Unsupported place) = codes "line 1: unsupported word " ++ decimal_of (pos place)
+table_fault_text (mtx.Size n) = bad_line_text n (codes "Size")
+table_fault_text (mtx.Entry n) = bad_line_text n (codes "Entry")
+table_fault_text (mtx.Index n) = bad_line_text n (codes "Index")
+table_fault_text (mtx.Diagonal n) = bad_line_text n (codes "Diagonal")
+table_fault_text (mtx.Range n) = bad_line_text n (codes "Range")
+table_fault_text (mtx.TooFew n) = bad_line_text n (codes "TooFew")
+table_fault_text (mtx.TooMany n) = bad_line_text n (codes "TooMany")
+table_fault_text (mtx.TooLarge rows cols) = decimal_of (pos rows) ++ codes " by " ++ decimal_of (pos cols)
+table_fault_text mtx.TooLong = more_bytes_text table_limit
+table_fault_text mtx.Read = codes "Read"
+table_fault_text mtx.Memory = codes "Memory"
+
+-- a table passes a limit, or is bad
+abbrev pub table_word : MtxFault → List ℕ
+table_word (mtx.TooLarge rows cols) = codes "limit "
+table_word mtx.TooLong = codes "limit "
+table_word fault = codes "bad file "
+
+abbrev pub table_line : List ℕ → MtxFault → List ℕ
+table_line name fault = table_word fault ++ name ++ codes ": " ++ table_fault_text fault ++ codes "\n"
 
 -- the name of a kind
 abbrev pub script_kind_text : ScriptKind → List ℕ

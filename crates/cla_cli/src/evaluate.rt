@@ -4,14 +4,14 @@ ghost use Rattle.std.specs.Prelude.{◌≡◌, Some, pos};
 ghost use Rattle.std.specs.Option.{option_map};
 ghost use Rattle.cla_num.specs.Bits.{IsSupported};
 ghost use Rattle.cla_num.specs.Counts.{AreBelow, kernel_bound};
+ghost use Rattle.cla_num.specs.Fault.{AnswersNumber};
 ghost use Rattle.cla_script.specs.View.{tree_of};
 ghost use Rattle.cla_cli.specs.Statements.{matrix_at, number_at, is_product, exact_number, sum_of, product_sum_of, summed, called, sum_counts, product_sum_counts, sum_work, call_work};
 ghost use Rattle.cla_cli.specs.Evaluate.{MayComeTo, CountsTo, FewMore, operator_most, statement_most, statement_bound};
 
-use crate::first::number_of;
 use crate::names::{Assigned, table_of};
 use crate::table::Table;
-use cla_num::{CellOp, Meter, Number, OpFault, Refused, Wide};
+use cla_num::{CellOp, Meter, Number, OpFault, Refused, What, Wide};
 use cla_script::{BinOp, Call, Expr, Place};
 use std::alloc::Global;
 
@@ -122,6 +122,22 @@ fn count_value<N: Number>(place: Place, count: u32) -> Result<Option<N>, Failed>
     match number_of(Wide::count(count)) {
         Ok(n) => Ok(Some(n)),
         Err(fault) => Err(Failed::Operator { place, fault }),
+    }
+}
+
+// The number of an exact value.
+fn number_of<N: Number>(exact: Wide) -> Result<N, OpFault>
+    requires { IsSupported N.BITS }
+    ensures { AnswersNumber N.BITS N.value exact result }
+{
+    match N::narrow(exact) {
+        Some(n) => Ok(n),
+        None => Err(OpFault {
+            op: 0,
+            row: 1,
+            col: 1,
+            what: What::Range { value: exact },
+        }),
     }
 }
 

@@ -1,6 +1,6 @@
 //! What a run needs before its first statement: the script and its tables.
 
-ghost use Rattle.std.specs.Prelude.{◌≡◌, ◌≤◌, ◌<◌, ◌^◌, List, Some, All, IfOk, length, map};
+ghost use Rattle.std.specs.Prelude.{◌≡◌, ◌≤◌, ◌<◌, ◌^◌, List, Some, None, All, IfOk, length, map};
 ghost use Rattle.cla_spec.specs.Files.{Told};
 ghost use Rattle.cla_spec.specs.Matrix.{Matrix};
 ghost use Rattle.cla_num.specs.Bits.{IsSupported};
@@ -10,15 +10,15 @@ ghost use Rattle.cla_tokens.specs.Formed.{AllFormed};
 ghost use Rattle.cla_check.specs.Scripts.{IsInLimits, reads_in};
 ghost use Rattle.cla_check.specs.Checks.{script_of};
 ghost use Rattle.cla_cli.specs.Statements.{files_read};
-ghost use Rattle.cla_cli.specs.Outcome.{Outcome, checked_script, checked_statements, with_table, with_tables, reads_outcome, statements_outcome, script_outcome, shape_of_table};
+ghost use Rattle.cla_cli.specs.Outcome.{Outcome, checked_script, checked_statements, table_refusal, with_table, with_tables, reads_outcome, statements_outcome, script_outcome, shape_of_table};
 ghost use Rattle.cla_cli.specs.Needed.{ReadsNoOther};
 ghost use Rattle.cla_cli.specs.Run.{ReadsOnly};
-ghost use Rattle.cla_cli.specs.Parts.{HasEnding, IsNeeded, Lets, Passes, RefusesAt, TellsFault, TellsUnread, refusal_of_text, refusal_of_table};
+ghost use Rattle.cla_cli.specs.Parts.{HasEnding, IsNeeded, Lets, Passes, RefusesAt, TellsFault, TellsUnread, refusal_of_text};
 
 use crate::built::are_built;
-use crate::lines::{limit_line, missing_line, script_line, unreadable_line};
+use crate::lines::{limit_line, missing_line, script_line, table_line, unreadable_line};
 use crate::needed::{SCRIPT_BYTES, read_table, read_text};
-use crate::status::{BadKind, FileFault, Status};
+use crate::status::{BadKind, Status, table_status};
 use crate::table::Table;
 use crate::unfinished::Unfinished;
 use crate::unread::{TooLong, Unread};
@@ -43,7 +43,8 @@ pub(crate) fn read_inputs<N: Number, F: Files>(
     files: &mut F,
     name: &str,
 ) -> Result<Inputs<N>, Unfinished>
-    requires { IsSupported N.BITS }
+    requires bits { IsSupported N.BITS }
+    requires idle { (F.state files.old).writing ≡ None }
     ensures frame { OnlyReads (F.state files.old) (F.state files.new) }
     ensures ending { HasEnding (F.state files.old) (F.state files.new) 0 0 result }
     ensures needed { (told : Told) → (F.state files.old).told ≡ Some told →
@@ -74,7 +75,8 @@ fn read_script<N: Number, F: Files>(
     files: &mut F,
     name: &str,
 ) -> Result<Script<N>, Unfinished>
-    requires { IsSupported N.BITS }
+    requires bits { IsSupported N.BITS }
+    requires idle { (F.state files.old).writing ≡ None }
     ensures frame { OnlyReads (F.state files.old) (F.state files.new) }
     ensures ending { HasEnding (F.state files.old) (F.state files.new) 0 0 result }
     ensures no_other { ReadsNoOther name.now (F.state files.new).reading }
@@ -134,7 +136,8 @@ fn read_tables<N: Number, F: Files>(
     files: &mut F,
     statements: &[Statement<N>],
 ) -> Result<Vec<Table<N>>, Unfinished>
-    requires { IsSupported N.BITS }
+    requires bits { IsSupported N.BITS }
+    requires idle { (F.state files.old).writing ≡ None }
     ensures frame { OnlyReads (F.state files.old) (F.state files.new) }
     ensures ending { HasEnding (F.state files.old) (F.state files.new) 0 0 result }
     ensures needed { (told : Told) (next : List Matrix → Outcome) → (F.state files.old).told ≡ Some told →
@@ -166,7 +169,8 @@ fn one_table<N: Number, F: Files>(
     files: &mut F,
     name: &str,
 ) -> Result<Table<N>, Unfinished>
-    requires { IsSupported N.BITS }
+    requires bits { IsSupported N.BITS }
+    requires idle { (F.state files.old).writing ≡ None }
     ensures frame { OnlyReads (F.state files.old) (F.state files.new) }
     ensures ending { HasEnding (F.state files.old) (F.state files.new) 0 0 result }
     ensures no_other { ReadsNoOther name.now (F.state files.new).reading }
@@ -174,7 +178,10 @@ fn one_table<N: Number, F: Files>(
         Lets next (with_table N.BITS told name.now next) result }
 {
     match read_table(alloc, files, name) {
-        Ok(m) => Ok(Table::of(m)),
+        Ok(m) => match Table::of(alloc, m) {
+            Ok(table) => Ok(table),
+            Err(_) => Err(Unfinished::Memory),
+        },
         Err(unread) => Err(tell_table(alloc, name, unread)),
     }
 }
@@ -236,17 +243,14 @@ fn tell_text(alloc: Global, name: &str, unread: Unread<TooLong>) -> Unfinished
 
 // Why the table of this name isn't read.
 fn tell_table(alloc: Global, name: &str, unread: Unread<MtxFault>) -> Unfinished
-    ensures { TellsUnread refusal_of_table name.now unread result }
+    ensures { TellsUnread (table_refusal name.now) name.now unread result }
 {
     match unread {
         Unread::Missing => Unfinished::by_refusal(Status::Missing, missing_line(alloc, name)),
         Unread::Fault => Unfinished::by_read_fault(unreadable_line(alloc, name)),
         Unread::Memory => Unfinished::Memory,
-        Unread::Refused(fault) => Unfinished::Refused {
-            status: Status::BadFile {
-                fault: FileFault::Mtx(fault),
-            },
-            line: None,
-        },
+        Unread::Refused(fault) => {
+            Unfinished::by_refusal(table_status(fault), table_line(alloc, name, fault))
+        }
     }
 }

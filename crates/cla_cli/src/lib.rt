@@ -3,12 +3,8 @@
 
 mod built;
 mod evaluate;
-mod first;
-#[cfg(test)]
-mod first_tests;
 mod inputs;
 mod lines;
-mod misfit;
 mod names;
 mod needed;
 mod statements;

@@ -1,11 +1,14 @@
 //! The lines that the program writes.
 
-ghost use Rattle.std.specs.Prelude.{◌≡◌, ◌++◌, IfOk, OnOk, codes};
+ghost use Rattle.std.specs.Prelude.{◌≡◌, ◌++◌, IfOk, OnOk, codes, pos};
 ghost use Rattle.cla_spec.specs.Numbers.{decimal_of};
-ghost use Rattle.cla_cli.specs.Texts.{missing_line, unreadable_line, limit_line, script_line, bad_kind_text, script_kind_text, shape_kind_text, operator_line, reason_text};
+ghost use Rattle.cla_market.specs.declared.fault.MtxFault.TheVariants as mtx;
+ghost use Rattle.cla_cli.specs.Texts.{missing_line, unreadable_line, more_bytes_text, limit_line, script_line, bad_line_text, table_fault_text, table_word, table_line, bad_kind_text, script_kind_text, shape_kind_text, operator_line, reason_text};
 
+use crate::needed::TABLE_BYTES;
 use crate::status::BadKind;
 use cla_check::ShapeKind;
+use cla_mtx::MtxFault;
 use cla_num::{Memory, OpFault, What, Wide};
 use cla_script::{Place, ScriptKind};
 use cla_text::Text;
@@ -29,9 +32,19 @@ pub(crate) fn unreadable_line(alloc: Global, name: &str) -> Result<Text, Memory>
 pub(crate) fn limit_line(alloc: Global, name: &str, limit: u64) -> Result<Text, Memory>
     ensures { IfOk result (λ line. line ≡ limit_line name.now limit) }
 {
-    let mut line = line_of(alloc, b"limit ", name, b": more than ")?;
-    line.push_int(i128::from(limit))?;
-    line.push(b" bytes\n")?;
+    let mut line = line_of(alloc, b"limit ", name, b": ")?;
+    push_more_bytes(&mut line, limit)?;
+    line.push(b"\n")?;
+    Ok(line)
+}
+
+/// The line that tells why a table is refused.
+pub(crate) fn table_line(alloc: Global, name: &str, fault: MtxFault) -> Result<Text, Memory>
+    ensures { IfOk result (λ line. line ≡ table_line name.now fault) }
+{
+    let mut line = line_of(alloc, table_word(fault), name, b": ")?;
+    push_fault(&mut line, fault)?;
+    line.push(b"\n")?;
     Ok(line)
 }
 
@@ -77,6 +90,69 @@ fn line_of(alloc: Global, before: &[u8], name: &str, behind: &[u8]) -> Result<Te
     line.push(name.as_bytes())?;
     line.push(behind)?;
     Ok(line)
+}
+
+// What a table's line begins with.
+fn table_word(fault: MtxFault) -> &'static [u8]
+    ensures { result.now ≡ table_word fault }
+{
+    match fault {
+        MtxFault::TooLarge { rows: _, cols: _ } | MtxFault::TooLong => b"limit ",
+        _ => b"bad file ",
+    }
+}
+
+// What is wrong with a table.
+fn push_fault(line: &mut Text, fault: MtxFault) -> Result<(), Memory>
+    ensures { OnOk result (line.new ≡ line.old ++ table_fault_text fault) }
+{
+    match fault {
+        MtxFault::Banner { line: n } => push_bad_line(line, n, b"Banner"),
+        MtxFault::Unsupported { place } => {
+            push_numbered(line, b"line 1: unsupported word ", u64::from(place))
+        }
+        MtxFault::Size { line: n } => push_bad_line(line, n, b"Size"),
+        MtxFault::Entry { line: n } => push_bad_line(line, n, b"Entry"),
+        MtxFault::Index { line: n } => push_bad_line(line, n, b"Index"),
+        MtxFault::Diagonal { line: n } => push_bad_line(line, n, b"Diagonal"),
+        MtxFault::Range { line: n } => push_bad_line(line, n, b"Range"),
+        MtxFault::TooFew { line: n } => push_bad_line(line, n, b"TooFew"),
+        MtxFault::TooMany { line: n } => push_bad_line(line, n, b"TooMany"),
+        MtxFault::TooLarge { rows, cols } => push_shape(line, rows, cols),
+        MtxFault::TooLong => push_more_bytes(line, TABLE_BYTES),
+        MtxFault::Read => line.push(b"Read"),
+        MtxFault::Memory => line.push(b"Memory"),
+    }
+}
+
+fn push_bad_line(line: &mut Text, n: u64, kind: &[u8]) -> Result<(), Memory>
+    ensures { OnOk result (line.new ≡ line.old ++ bad_line_text n kind.now) }
+{
+    push_numbered(line, b"line ", n)?;
+    line.push(b": ")?;
+    line.push(kind)
+}
+
+fn push_shape(line: &mut Text, rows: u32, cols: u32) -> Result<(), Memory>
+    ensures { OnOk result (line.new ≡ line.old ++ table_fault_text (mtx.TooLarge rows cols)) }
+{
+    line.push_int(i128::from(rows))?;
+    line.push(b" by ")?;
+    line.push_int(i128::from(cols))
+}
+
+fn push_more_bytes(line: &mut Text, limit: u64) -> Result<(), Memory>
+    ensures { OnOk result (line.new ≡ line.old ++ more_bytes_text limit) }
+{
+    push_numbered(line, b"more than ", limit)?;
+    line.push(b" bytes")
+}
+
+fn push_numbered(line: &mut Text, words: &[u8], n: u64) -> Result<(), Memory>
+    ensures { OnOk result (line.new ≡ line.old ++ (words.now ++ decimal_of (pos n))) }
+{
+    line.push(words)?;
+    line.push_int(i128::from(n))
 }
 
 fn kind_text(kind: BadKind) -> &'static [u8]

@@ -1,9 +1,9 @@
 //! The files that a command needs: its script and its tables.
 
-ghost use Rattle.std.specs.Prelude.{◌≡◌, ◌≤◌, OnOk, IfOk, length};
+ghost use Rattle.std.specs.Prelude.{◌≡◌, ◌≤◌, OnOk, IfOk, None, length};
 ghost use Rattle.cla_io.specs.Reads.{OnlyReads};
 ghost use Rattle.cla_num.specs.Bits.{IsSupported};
-ghost use Rattle.cla_cli.specs.Outcome.{script_limit};
+ghost use Rattle.cla_cli.specs.Limits.{script_limit};
 ghost use Rattle.cla_cli.specs.Needed.{HasUnreadCause, ReadsNoOther, Opens, ReadsText, ReadsTable};
 
 use crate::unread::{TooLong, Unread};
@@ -16,7 +16,7 @@ use std::alloc::Global;
 pub(crate) const SCRIPT_BYTES: u64 = 1 << 20;
 
 /// How many bytes a table may have.
-const TABLE_BYTES: u64 = 1 << 32;
+pub(crate) const TABLE_BYTES: u64 = 1 << 32;
 
 /// The whole text of a script.
 pub(crate) fn read_text<F: Files>(
@@ -24,6 +24,7 @@ pub(crate) fn read_text<F: Files>(
     files: &mut F,
     name: &str,
 ) -> Result<Vec<u8>, Unread<TooLong>>
+    requires idle { (F.state files.old).writing ≡ None }
     ensures frame { OnlyReads (F.state files.old) (F.state files.new) }
     ensures cause { HasUnreadCause (F.state files.old) (F.state files.new) result }
     ensures no_other { ReadsNoOther name.now (F.state files.new).reading }
@@ -51,7 +52,8 @@ pub(crate) fn read_table<N: Number, F: Files>(
     files: &mut F,
     name: &str,
 ) -> Result<Dense<N>, Unread<MtxFault>>
-    requires { IsSupported N.BITS }
+    requires bits { IsSupported N.BITS }
+    requires idle { (F.state files.old).writing ≡ None }
     ensures frame { OnlyReads (F.state files.old) (F.state files.new) }
     ensures cause { HasUnreadCause (F.state files.old) (F.state files.new) result }
     ensures no_other { ReadsNoOther name.now (F.state files.new).reading }
@@ -66,14 +68,15 @@ pub(crate) fn read_table<N: Number, F: Files>(
     };
     match read_mtx(alloc, &mut input) {
         Ok(m) => Ok(m),
-        Err(MtxFault::Banner { line }) => Err(Unread::Refused(MtxFault::Banner { line })),
         Err(MtxFault::Read) => Err(Unread::Fault),
         Err(MtxFault::Memory) => Err(Unread::Memory),
+        Err(fault) => Err(Unread::Refused(fault)),
     }
 }
 
 // Begins to read a file that has to be there.
 fn open<F: Files, R>(files: &mut F, name: &str) -> Result<(), Unread<R>>
+    requires { (F.state files.old).writing ≡ None }
     ensures frame { OnlyReads (F.state files.old) (F.state files.new) }
     ensures cause { HasUnreadCause (F.state files.old) (F.state files.new) result }
     ensures opens { Opens (F.state files.old).told name.now (F.state files.new).reading result }

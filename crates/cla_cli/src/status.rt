@@ -2,6 +2,7 @@
 
 ghost use Rattle.std.specs.Prelude.{◌≡◌};
 ghost use Rattle.cla_cli.specs.Codes.{code_of};
+ghost use Rattle.cla_cli.specs.Outcome.{table_status};
 
 use cla_check::ShapeKind;
 use cla_mtx::MtxFault;
@@ -26,9 +27,9 @@ pub enum Status {
     WriteFault,
     /// The script isn't of the form that runs.
     BadScript { place: Place, kind: BadKind },
-    /// A table isn't of the form that is read.
+    /// A table isn't of the form that is read: the first fault of its text.
     BadFile { fault: FileFault },
-    /// A script is longer than its limit.
+    /// A script has too many bytes, or a table too many bytes or cells.
     Limit,
     /// An operator has a cell out of range: the operator's place, and its first such cell.
     Operator { place: Place, fault: OpFault },
@@ -45,8 +46,20 @@ pub enum BadKind {
 /// Why a table is refused.
 #[derive(Clone, Copy, Debug, PartialEq, Eq, Error)]
 pub enum FileFault {
-    #[error("not an array file")]
+    #[error("not a Matrix Market file")]
     Mtx(MtxFault),
+}
+
+/// The status of a table with this fault.
+pub(crate) fn table_status(fault: MtxFault) -> Status
+    ensures { result ≡ table_status fault }
+{
+    match fault {
+        MtxFault::TooLarge { rows: _, cols: _ } | MtxFault::TooLong => Status::Limit,
+        _ => Status::BadFile {
+            fault: FileFault::Mtx(fault),
+        },
+    }
 }
 
 /// The exit status of the process.

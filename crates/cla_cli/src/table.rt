@@ -1,54 +1,69 @@
 //! The tables of a script.
 
-ghost use Rattle.std.specs.Prelude.{◌≡◌, ◌≤◌, ◌+◌, ◌*◌};
-ghost use Rattle.cla_spec.specs.Matrix.{IsShaped, exact_sum};
+ghost use Rattle.std.specs.Prelude.{◌≡◌, ◌≤◌, ◌*◌, ◌∷◌, [], IfOk};
+ghost use Rattle.cla_spec.specs.Matrix.{exact_sum};
 ghost use Rattle.cla_num.specs.Bits.{IsSupported};
 ghost use Rattle.cla_num.specs.Counts.{AreBelow, kernel_bound};
 ghost use Rattle.cla_num.specs.Fault.{AnswersNumber};
 ghost use Rattle.cla_check.specs.Scripts.{IsInLimits};
-ghost use Rattle.cla_cli.specs.First.{HasMaps};
+ghost use Rattle.cla_layout.specs.Layouts.{IsWhole};
+ghost use Rattle.cla_coded.specs.AnyGroups.{any_codes, any_dictionary};
+ghost use Rattle.cla_coded.specs.Tables.{layout_of, matrix_of};
+ghost use Rattle.cla_coded.specs.Skeletons.{skeleton_of};
+ghost use Rattle.cla_meaning.specs.Counts.{HasMults};
 ghost use Rattle.cla_cli.specs.Outcome.{shape_of_table};
-ghost use Rattle.cla_cli.specs.Tables.{AnswersProduct};
+ghost use Rattle.cla_cli.specs.Tables.{IsLoose, AnswersProduct, MapsOrFewer};
 ghost use Rattle.cla_cli.specs.Evaluate.{FewMore, operator_most};
 ghost use Rattle.cla_print.specs.Texts.{matrix_text};
 ghost use Rattle.cla_io.specs.Sinks.{PutsAll};
 ghost use Rattle.cla_io.specs.Counts.{HasCause};
 
-use crate::first::{scale_group, sum_group};
 use cla_check::Shape;
-use cla_group::Group;
+use cla_coded::{Coded, loose};
 use cla_io::{Sink, Stop};
-use cla_num::{Dense, Meter, Number, OpFault, Refused};
-use cla_plain::Plain;
+use cla_map::{Step, map_chain};
+use cla_num::{CellOp, Dense, Memory, Meter, Number, OpFault, Refused};
 use cla_print::print_rows;
 use std::alloc::Global;
 use std::marker::Model;
 
-/// A table, kept as one plain group of all its columns. Contracts see the matrix.
+/// A table, kept loose: as one plain group of all its columns. Contracts see the matrix.
 #[derive(Drop)]
 pub(crate) struct Table<N: Number> {
-    group: Plain<N>,
+    coded: Coded<N>,
+    ghost is_loose: { IsLoose (skeleton_of any_codes coded) },
+    ghost is_whole: { IsWhole N.BITS (layout_of any_codes any_dictionary coded) },
 }
 
 impl<N: Number> Model for Table<N> {
     ghost use Rattle.cla_spec.specs.Matrix.{Matrix};
-    ghost use Rattle.cla_plain.specs.Members.{plain_columns, plain_codes, plain_dictionary};
-    ghost use Rattle.cla_cli.specs.Tables.{matrix_of_group};
+    ghost use Rattle.cla_coded.specs.AnyGroups.{any_codes, any_dictionary};
+    ghost use Rattle.cla_coded.specs.Tables.{matrix_of};
 
     ghost Value = { Matrix };
 
-    ghost view = { λ t. matrix_of_group (plain_columns t.group) (plain_codes t.group) (plain_dictionary t.group) };
+    ghost view = { λ t. matrix_of any_codes any_dictionary t.coded };
 }
 
 impl<N: Number> Table<N> {
-    /// The table of this matrix, in the memory that the matrix had.
-    pub(crate) fn of(m: Dense<N>) -> Table<N>
-        ensures { result ≡ m }
+    /// The table of this matrix, in the memory that the cells had.
+    pub(crate) fn of(alloc: Global, m: Dense<N>) -> Result<Table<N>, Memory>
+        ensures { IfOk result (λ t. t ≡ m) }
     {
-        let width = m.cols();
-        Table {
-            group: Plain::from_rows(width, Vec::from(m)),
-        }
+        // (its cells tell that it has its shape)
+        prove!(!m.cells().is_empty());
+        let coded = loose(alloc, m)?;
+        Ok(Table::kept(coded))
+    }
+
+    // The table that is kept so.
+    fn kept(coded: Coded<N>) -> Table<N>
+        requires { IsLoose (skeleton_of any_codes coded) }
+        ensures { result ≡ matrix_of any_codes any_dictionary coded }
+    {
+        // (its parts tell that it is whole)
+        prove!(coded.parts().len() == 1);
+        Table { coded }
     }
 
     /// How many rows and columns there are.
@@ -57,8 +72,8 @@ impl<N: Number> Table<N> {
         ensures limits { IsInLimits result }
     {
         Shape {
-            rows: self.group.rows(),
-            cols: self.group.width(),
+            rows: self.coded.rows(),
+            cols: self.coded.cols(),
         }
     }
 
@@ -67,10 +82,10 @@ impl<N: Number> Table<N> {
         requires bits { IsSupported N.BITS }
         requires room { AreBelow kernel_bound meter.old }
         ensures sum { AnswersNumber N.BITS N.value (exact_sum self.now) result }
-        ensures counts { meter.new ≡ record meter.old { mults = meter.old.mults + self.now.rows * self.now.cols } }
+        ensures counts { HasMults (self.now.rows * self.now.cols) meter.old meter.new }
         ensures few { FewMore operator_most meter.old meter.new }
     {
-        sum_group(&self.group, meter)
+        cla_agg::sum(&self.coded, meter)
     }
 
     /// Every cell times k, with a map evaluation for each.
@@ -78,13 +93,16 @@ impl<N: Number> Table<N> {
         requires bits { IsSupported N.BITS }
         requires room { AreBelow kernel_bound meter.old }
         ensures product { AnswersProduct N.BITS self.now (N.value k) result }
-        ensures counts { HasMaps (self.now.rows * self.now.cols) meter.old meter.new result }
+        ensures counts { MapsOrFewer (self.now.rows * self.now.cols) meter.old meter.new result }
         ensures few { FewMore operator_most meter.old meter.new }
     {
-        match scale_group(alloc, &self.group, k, meter) {
-            Ok(group) => Ok(Table { group }),
-            Err(Refused::Op(fault)) => Err(Refused::Op(fault)),
-            Err(Refused::Memory) => Err(Refused::Memory),
+        let op = CellOp::Mul;
+        let Ok(steps) = one_step(alloc, Step::Right { op, scalar: k }) else {
+            return Err(Refused::Memory);
+        };
+        match map_chain(alloc, &self.coded, &steps, meter) {
+            Ok(coded) => Ok(Table::kept(coded)),
+            Err(refused) => Err(refused),
         }
     }
 
@@ -96,6 +114,15 @@ impl<N: Number> Table<N> {
         ensures kept { O.kept out.old out.new }
         ensures cause { HasCause (O.faults out.old) (O.faults out.new) result }
     {
-        print_rows(alloc, &self.group, out)
+        print_rows(alloc, &self.coded.parts()[0].group, out)
     }
+}
+
+// The chain of this step alone.
+fn one_step<N: Number>(alloc: Global, step: Step<N>) -> Result<Vec<Step<N>>, Memory>
+    ensures { IfOk result (λ steps. steps.items ≡ step ∷ []) }
+{
+    let mut steps = Vec::with_capacity(alloc, 1)?;
+    steps.push(step)?;
+    Ok(steps)
 }

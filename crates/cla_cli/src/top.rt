@@ -36,6 +36,7 @@ pub fn run<N: Number, F: Files, O: Sink, E: Sink>(
 ) -> Status
     requires bits { IsSupported N.BITS }
     requires room { AreBelow run_bound meter.old }
+    requires idle { (F.state files.old).writing ≡ None }
     ensures ends { EndsWhereTold N.BITS (map string_bytes words.now)
         (F.state files.old).told (F.state files.new).told (F.state files.old) (F.state files.new)
         (written (O.told out.old) (O.faults out.old)) (written (O.told out.new) (O.faults out.new))
@@ -82,6 +83,7 @@ fn run_script<N: Number, F: Files, O: Sink>(
 ) -> Result<(), Unfinished>
     requires bits { IsSupported N.BITS }
     requires room { AreBelow run_bound meter.old }
+    requires idle { (F.state files.old).writing ≡ None }
     ensures comes { ComesWhereTold N.BITS name.now
         (F.state files.old).told (F.state files.new).told (F.state files.old) (F.state files.new)
         (written (O.told out.old) (O.faults out.old)) (written (O.told out.new) (O.faults out.new)) result }
@@ -127,10 +129,7 @@ fn tell<E: Sink>(err: &mut E, unfinished: Unfinished) -> Status
     ensures kept { E.kept err.old err.new }
 {
     match unfinished {
-        Unfinished::Refused { status, line } => match line {
-            Some(line) => tell_line(err, line.bytes(), status),
-            None => status,
-        },
+        Unfinished::Refused { status, line } => tell_line(err, line.bytes(), status),
         Unfinished::Unread { line } => tell_line(err, line.bytes(), Status::ReadFault),
         Unfinished::OutputUnwritten => {
             tell_line(err, b"cannot write output\n", Status::WriteFault)

@@ -1,6 +1,6 @@
 //! Why a command isn't done, with the line that tells it.
 
-ghost use Rattle.std.specs.Prelude.{◌≡◌, Some, MatchResult};
+ghost use Rattle.std.specs.Prelude.{◌≡◌, MatchResult};
 ghost use Rattle.cla_cli.specs.declared.unfinished.Unfinished.TheVariants as unfinished;
 
 use crate::status::Status;
@@ -10,8 +10,8 @@ use cla_text::Text;
 /// A command that isn't done.
 #[derive(Drop)]
 pub(crate) enum Unfinished {
-    /// A check refuses, or an operator fails. Some statuses have no line yet.
-    Refused { status: Status, line: Option<Text> },
+    /// A check refuses, or an operator fails.
+    Refused { status: Status, line: Text },
     /// A needed file can't be read.
     Unread { line: Text },
     /// The output can't be written.
@@ -24,13 +24,10 @@ impl Unfinished {
     /// A check refuses, as this line tells; or memory is wanting for it.
     pub(crate) fn by_refusal(status: Status, line: Result<Text, Memory>) -> Unfinished
         ensures { MatchResult line
-            (λ told. result ≡ unfinished.Refused status (Some told)) (λ e. result ≡ unfinished.Memory) }
+            (λ told. result ≡ unfinished.Refused status told) (λ e. result ≡ unfinished.Memory) }
     {
         match line {
-            Ok(line) => Unfinished::Refused {
-                status,
-                line: Some(line),
-            },
+            Ok(line) => Unfinished::Refused { status, line },
             Err(_) => Unfinished::Memory,
         }
     }

@@ -9,7 +9,8 @@ use Rattle.cla_cli.proofs.inputs.read_tables.Goals as goal
 
 pub loop-statement-init : goal.loop-statement-init
 loop-statement-init g c = record {
-  frame = record { told = refl; steady = refl; read_faults = omega arith; misses = omega arith };
+  frame = record
+      { told = refl; writing = refl; steady = refl; read_faults = omega arith; write_faults = refl; misses = omega arith };
   no_fault = refl;
   no_miss = refl;
   one_each = none_yet c.new-tables.result.items _ c.new-tables.ensures.items;

@@ -1,7 +1,6 @@
-use Rattle.std.proofs.Common.{◌≤◌, arith}
 use Rattle.cla_io.specs.State.{left}
 use Rattle.cla_io.specs.Lines.{ahead_of}
-use Rattle.cla_cli.proofs.NeededLaws.{table_read, table_refused}
+use Rattle.cla_cli.proofs.NeededLaws.{table_read}
 use Rattle.cla_cli.proofs.needed.read_table.Goals as goal
 
 pub returns-in-Ok-read_mtx-clause-reads : goal.returns-in-Ok-read_mtx-clause-reads
@@ -10,18 +9,6 @@ returns-in-Ok-read_mtx-clause-reads g c =
     let opened = g.F.Files.state c.open.new.files in
     let new = c.read_mtx.new.input in
     let made = c.in-Ok-new.ensures in
-    let few : g.N.Number.BITS ≤ 63 = omega (arith, c.requires.most) in
     table_read g.N.Number.BITS old.told opened.told opened.reading c.args.name.now c.in-Ok-read_mtx.m c.in-Ok-new.input.taken
     (ahead_of new.taken (left (g.F.Files.state new.files.now)))
-    few c.open.ensures.frame.told c.in-Ok.ensures.opens made.nothing_taken (rw made.same at c.in-Ok-read_mtx.ensures.reads)
-
-pub returns-in-Err-Banner-clause-reads : goal.returns-in-Err-Banner-clause-reads
-returns-in-Err-Banner-clause-reads g c =
-    let old = g.F.Files.state c.args.files.now in
-    let opened = g.F.Files.state c.open.new.files in
-    let new = c.read_mtx.new.input in
-    let made = c.in-Ok-new.ensures in
-    table_refused g.N.Number.BITS c.in-Err-Banner.line old.told opened.told opened.reading c.args.name.now c.in-Ok-new.input.taken
-    (ahead_of new.taken (left (g.F.Files.state new.files.now)))
-    c.open.ensures.frame.told c.in-Ok.ensures.opens made.nothing_taken
-    (rw (made.same, c.in-Err-Banner.field-0-is) at c.in-Err-Banner.ensures.reads)
+    c.open.ensures.frame.told c.in-Ok.ensures.opens made.nothing_taken (rw made.same at c.in-Ok-read_mtx.ensures.reads)

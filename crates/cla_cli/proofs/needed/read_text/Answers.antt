@@ -1,7 +1,7 @@
 use Rattle.std.proofs.Common.{◌≤◌, length, ap, arith}
 use Rattle.cla_io.specs.State.{left}
 use Rattle.cla_io.specs.Lines.{Progress, ahead_of}
-use Rattle.cla_cli.specs.Outcome.{script_limit}
+use Rattle.cla_cli.specs.Limits.{script_limit}
 use Rattle.cla_cli.proofs.NeededLaws.{text_read, text_too_long}
 use Rattle.cla_cli.proofs.needed.read_text.Goals as goal
 

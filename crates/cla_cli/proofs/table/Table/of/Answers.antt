@@ -1,19 +1,13 @@
-use Rattle.std.proofs.Common.{List, ℤ, length, ap, sym, ◌∙◌}
-use Rattle.std.proofs.lemmas.List.{length-map}
-use Rattle.cla_plain.proofs.Shapes.{whole_rows}
-use Rattle.cla_cli.proofs.TableLaws.{plain_stands, stands_is}
+use Rattle.std.proofs.Common.{◌∙◌}
+use Rattle.cla_coded.specs.AnyGroups.{any_codes, any_dictionary}
+use Rattle.cla_cli.proofs.TableLaws.{shape_is, loose_is, loose_matrix}
 use Rattle.cla_cli.proofs.table.Table.of.Goals as goal
 
-pub from_rows-requires : goal.from_rows-requires
-from_rows-requires g c = record
-    { rows = rw c.cols-width.ensures (whole_rows c.args.m.rows c.args.m.cols c.from.result.items c.from.ensures.shape) }
+pub kept-requires : goal.kept-requires
+kept-requires g c = loose_is any_codes any_dictionary c.in_ok-coded.coded c.args.m c.in_ok-coded.ensures.layout c.in_ok-coded.ensures.flipped
 
 pub returns : goal.returns
-returns g c =
-    stands_is _ _ _ c.args.m
-    (plain_stands g.N.Number.value c.args.m c.from.result.items _ _ _ c.from.ensures.cells c.from.ensures.shape
-    (c.from_rows.ensures.columns ∙ c.cols-width.ensures) (rw c.cols-width.ensures at c.from_rows.ensures.codes)
-    (rw c.cols-width.ensures at c.from_rows.ensures.dictionary))
-    c.from.ensures.shape.a_col
-    (ap (λ (l : List ℤ). length l) (sym c.from.ensures.cells) ∙ length-map c.from.result.items g.N.Number.value
-    ∙ c.from.ensures.shape.count)
+returns g c = c.kept.ensures ∙
+    loose_matrix any_codes any_dictionary c.in_ok-coded.coded c.args.m
+    (shape_is g.N.Number.value c.args.m.rows c.args.m.cols c.cells.result.now c.args.m.cells c.cells.ensures.cells c.cells.ensures.shape)
+    c.in_ok-coded.ensures.layout c.in_ok-coded.ensures.flipped
