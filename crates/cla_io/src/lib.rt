@@ -35,5 +35,5 @@ pub use mem_sink::MemSink;
 pub use put::put_all;
 pub use sink::Sink;
 pub use std_sink::StdSink;
-pub use stop::{CallKind, InFault, Stop};
+pub use stop::{CallKind, InFault, OutFault, Stop};
 pub use taken::Taken;

@@ -24,6 +24,15 @@ pub enum InFault {
     Memory,
 }
 
+/// A text isn't written whole: a write failed, or memory is wanting.
+#[derive(Clone, Copy, Debug, PartialEq, Eq, Error)]
+pub enum OutFault {
+    #[error("a write failed")]
+    Write,
+    #[error("out of memory")]
+    Memory,
+}
+
 /// The kinds of calls on files, by which the calls of [`crate::MemFiles`] are numbered.
 #[derive(Clone, Copy, Debug, PartialEq, Eq)]
 pub enum CallKind {

@@ -2,8 +2,8 @@
 use Rattle.std.specs.Prelude.{◌≡◌, ℕ, List, take, Option, Result, Ok, Err}
 use Rattle.cla_io.specs.Counts.{Rose}
 use Rattle.cla_io.specs.Sinks.{Grows}
-use Rattle.cla_mtx.specs.declared.fault.OutFault.{OutFault}
-use Rattle.cla_mtx.specs.declared.fault.OutFault.TheVariants.{Write, Memory}
+use Rattle.cla_io.specs.declared.stop.OutFault.{OutFault}
+use Rattle.cla_io.specs.declared.stop.OutFault.TheVariants.{Write, Memory}
 
 -- a text was appended, or a prefix of it where it wasn't written whole
 abbrev pub PutsText : {U : Type 0} → List ℕ → Option (List ℕ) → Option (List ℕ) → Result U OutFault → Type 0

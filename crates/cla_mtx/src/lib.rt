@@ -2,14 +2,13 @@
 #![tactic(auto)]
 
 mod entries;
-mod fault;
 mod next_cell;
 mod phase;
 mod plain;
 mod reader;
 mod writer;
 
+pub use cla_io::OutFault;
 pub use cla_market::MtxFault;
-pub use fault::OutFault;
 pub use reader::read_mtx;
 pub use writer::write_mtx;

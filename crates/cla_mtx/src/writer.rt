@@ -10,8 +10,7 @@ ghost use Rattle.cla_print.specs.Pieces.{pieces};
 ghost use Rattle.cla_mtx.specs.Texts.{column_text, cell_text, count_in_column};
 ghost use Rattle.cla_mtx.specs.Writing.{PutsText, HasWriteCause};
 
-use crate::fault::OutFault;
-use cla_io::{Sink, Stop};
+use cla_io::{OutFault, Sink, Stop};
 use cla_num::{Dense, Number, Wide};
 use cla_print::Buffer;
 use std::alloc::Global;
