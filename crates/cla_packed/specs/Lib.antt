@@ -1,0 +1,10 @@
+pub mod Fields
+pub mod Values
+pub mod Codes
+pub mod Lists
+pub mod Offsets
+pub mod Runs
+pub mod Bodies
+pub mod Rests
+pub mod Files
+pub mod Layouts
