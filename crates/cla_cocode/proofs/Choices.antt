@@ -31,7 +31,7 @@ choice_stays at (s ∷ ss) best h =
     ∙ choice_stays (at + 1) ss best (omega (arith, h))
 
 -- the first place of the greatest, where it is not the first saving
-later : (s : ℕ) (ss : List ℕ) (at : ℕ) → s < greatest ss → (max s (greatest ss) ≡ greatest ss) × (at + 1 + first_place ss (greatest ss) ≡ at + first_place (s ∷ ss) (max s (greatest ss)))
+pub later : (s : ℕ) (ss : List ℕ) (at : ℕ) → s < greatest ss → (max s (greatest ss) ≡ greatest ss) × (at + 1 + first_place ss (greatest ss) ≡ at + first_place (s ∷ ss) (max s (greatest ss)))
 later s ss at h =
     let most : max s (greatest ss) ≡ greatest ss = max_right s (greatest ss) (omega (arith, h)) in
     let other : eqb s (greatest ss) ≡ false = ne_eqb s (greatest ss) (λ e. omega (arith, e, h)) in
@@ -40,7 +40,7 @@ later s ss at h =
     (most, omega (arith, place))
 
 -- the first saving is the greatest
-first : (s : ℕ) (ss : List ℕ) (at : ℕ) → greatest ss ≤ s → (max s (greatest ss) ≡ s) × (at ≡ at + first_place (s ∷ ss) (max s (greatest ss)))
+pub first : (s : ℕ) (ss : List ℕ) (at : ℕ) → greatest ss ≤ s → (max s (greatest ss) ≡ s) × (at ≡ at + first_place (s ∷ ss) (max s (greatest ss)))
 first s ss at h =
     let most : max s (greatest ss) ≡ s = max_left s (greatest ss) h in
     let place : first_place (s ∷ ss) (max s (greatest ss)) ≡ 0 =

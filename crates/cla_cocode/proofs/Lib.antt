@@ -4,3 +4,6 @@ mod FigureLemmas
 mod CutLemmas
 mod Placed
 mod Finished
+mod Unions
+mod PartLemmas
+mod Partition

@@ -1,2 +1,4 @@
 pub mod Cuts
 pub mod Kept
+pub mod Weighing
+pub mod Built

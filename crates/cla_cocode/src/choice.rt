@@ -3,6 +3,7 @@
 ghost use Rattle.std.specs.Prelude.{◌≡◌, ◌≤◌, ◌<◌, ◌-◌, ℕ, List, length, map, All, IfOk};
 ghost use Rattle.cla_stats.specs.Coded.{CanJoin};
 ghost use Rattle.cla_grouping.specs.Grouping.{choice_of};
+ghost use Rattle.cla_cocode.specs.Weighing.{SavingGives};
 ghost use Rattle.cla_cocode.specs.Kept.{IsFit, IsChosen, code_saving, better};
 
 use crate::kept::{Kept, saving};
@@ -31,17 +32,20 @@ pub(crate) fn choose(alloc: Global, groups: &[Kept], single: &Kept) -> Result<Ch
         saving: 0,
     };
     for k in groups.len().saturating_sub(WINDOW)..groups.len() {
-        let saving = saving(alloc, &groups[k], single)?;
+        let saving = saving(alloc, &groups[k], single, best.saving)?;
         best = better_of(best, k, saving);
     }
     Ok(best)
 }
 
-// The better of two, and the first of equals.
-fn better_of(best: Chosen, place: usize, saving: u64) -> Chosen
-    ensures value { result ≡ better place saving best }
+// The better of two, and the first of equals; no saving is one that is no better.
+fn better_of(best: Chosen, place: usize, saving: Option<u64>) -> Chosen
+    ensures value { (s : ℕ) → SavingGives best.saving s saving → result ≡ better place s best }
     ensures within { (n : ℕ) → place < n → (0 < best.saving → best.place < n) → 0 < result.saving → result.place < n }
 {
+    let Some(saving) = saving else {
+        return best;
+    };
     if best.saving < saving {
         Chosen { place, saving }
     } else {

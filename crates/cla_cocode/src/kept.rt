@@ -4,9 +4,11 @@ ghost use Rattle.std.specs.Prelude.{◌≡◌, ◌∷◌, [], ◌<◌, ◌++◌,
 ghost use Rattle.cla_spec.specs.Matrix.{IsShaped};
 ghost use Rattle.cla_stats.specs.Coded.{CanJoin};
 ghost use Rattle.cla_cocode.specs.Kept.{IsCounted, IsJoined, IsFit, code_saving};
+ghost use Rattle.cla_cocode.specs.Weighing.{SavingGives};
 
 use crate::figures::best_kind;
-use cla_grouping::KindBytes;
+use crate::weigh::{count, floor, with_distinct};
+use cla_grouping::{KindBytes, best, most_tuples};
 use cla_num::{Dense, Memory, Number};
 use cla_stats::Tuples;
 use std::alloc::Global;
@@ -56,14 +58,29 @@ pub(crate) fn together(
     })
 }
 
-/// The bytes that a group saves by taking in a column; 0 where it saves none.
-pub(crate) fn saving(alloc: Global, group: &Kept, single: &Kept) -> Result<u64, Memory>
+/// The bytes that a group saves by taking in a column, or nothing where they are no more than `least`.
+/// The union is weighed by how many pairs of tuples there are and how many rows and runs are listed, and
+/// its codes are not written; with too many pairs it isn't even counted to the end.
+pub(crate) fn saving(
+    alloc: Global,
+    group: &Kept,
+    single: &Kept,
+    least: u64,
+) -> Result<Option<u64>, Memory>
     requires pair { CanJoin group.now.tuples single.now.tuples }
     requires group { IsFit group.now }
     requires single { IsFit single.now }
-    ensures { IfOk result (λ s. s ≡ code_saving group.now single.now) }
+    ensures { IfOk result (SavingGives least (code_saving group.now single.now)) }
 {
-    let joined = Tuples::join(alloc, &group.tuples, &single.tuples)?;
     let apart = group.best.bytes + single.best.bytes;
-    Ok(apart.saturating_sub(best_kind(&joined).bytes))
+    if apart <= least {
+        return Ok(None);
+    }
+    let floor = floor(&group.tuples, &single.tuples);
+    let most = most_tuples(floor, apart - least);
+    let Some(distinct) = count(alloc, &group.tuples, &single.tuples, most)? else {
+        return Ok(None);
+    };
+    let joined = best(with_distinct(floor, distinct));
+    Ok(Some(apart.saturating_sub(joined.bytes)))
 }

@@ -2,13 +2,18 @@
 #![tactic(auto)]
 
 mod budget;
+mod built;
 mod choice;
 mod cut;
 mod figures;
 mod kept;
 mod layouts;
+mod pairs;
+mod values;
+mod weigh;
 
 pub use budget::{OverBudget, within};
+pub use built::build;
 pub use cut::{Cut, LayoutGroup, size};
 pub use figures::{best, sizes};
 pub use layouts::layout;
