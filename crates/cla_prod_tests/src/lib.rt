@@ -2,6 +2,4 @@
 #![tactic(auto)]
 
 #[cfg(test)]
-mod checked;
-#[cfg(test)]
 mod product_tests;

@@ -2,10 +2,10 @@
 
 ghost use Rattle.std.specs.Prelude.{◌≡◌};
 
-use crate::checked::{Entry, group_of, numbers, table_of};
+use cla_checked_tables::{Entry, group_of, numbers, table_of};
 use cla_coded::{AnyGroup, Coded, Part};
 use cla_group::Kind;
-use cla_num::{Dense, Meter};
+use cla_num::{Dense, Meter, Refused};
 use cla_prod::{left, product, right, self_product};
 use std::alloc::Global;
 use std::process::Abort;
@@ -14,6 +14,8 @@ use std::test::Fail;
 const KINDS: [Kind; 4] = [Kind::Plain, Kind::Codes, Kind::Offsets, Kind::Runs];
 
 const MOST_CELLS: u64 = 1 << 26;
+
+const GREATEST: i64 = 140737488355327;
 
 // A product, and how many multiplications it took.
 type Product = (Dense<Entry>, u128);
@@ -202,4 +204,45 @@ fn the_cheaper_side(rt: HostRuntime) -> Result<(), Fail> {
         &[2500, 2500, 2500, 2500],
         6,
     )
+}
+
+// The step, row and column of an operator's fault.
+fn place_of(refused: Refused) -> Result<(u32, u32, u32), Fail> {
+    match refused {
+        Refused::Op(fault) => Ok((fault.op, fault.row, fault.col)),
+        Refused::Memory => Err(Fail::new("no memory")),
+    }
+}
+
+// Where a product has its fault.
+fn fault_of(alloc: Global, a: &Coded<Entry>, b: &Dense<Entry>) -> Result<(u32, u32, u32), Fail> {
+    if a.cols() != b.rows() || u64::from(a.rows()) * u64::from(b.cols()) > MOST_CELLS {
+        return Err(Fail::new("no product"));
+    }
+    let mut meter = Meter::new();
+    place_of(right(alloc, a, b, &mut meter).err().ok_or("a product")?)
+}
+
+// The rows (0, 2) and (2, 0) by the matrix of the greatest number, 1, 1 and the greatest: the first entry
+// row by row that isn't in range is in row 1 and column 2, and that column by column in row 2 and column 1.
+#[test]
+fn first_entry_out_of_range(rt: HostRuntime) -> Result<(), Fail> {
+    let alloc = rt.alloc();
+    let mut parts = Vec::new(alloc);
+    parts.push(part_of(alloc, Kind::Codes, &[0, 1], &[0, 1], &[0, 2, 2, 0])?)?;
+    let x = table_of(alloc, 2, 2, false, parts)?;
+    let b = matrix(alloc, 2, 2, &[GREATEST, 1, 1, GREATEST])?;
+    assert_eq!(rt; fault_of(alloc, &x, &b)?, (0, 1, 2));
+    Ok(())
+}
+
+// The greatest number twice, and then less it: the sum is in range, and no partial sum is tested.
+#[test]
+fn partial_sums_out_of_range(rt: HostRuntime) -> Result<(), Fail> {
+    let alloc = rt.alloc();
+    let ones = matrix(alloc, 1, 3, &[1, 1, -1])?;
+    let mut parts = Vec::new(alloc);
+    parts.push(part_of(alloc, Kind::Plain, &[0], &[0, 0, 0], &[GREATEST])?)?;
+    let x = table_of(alloc, 3, 1, false, parts)?;
+    is(&rt, alloc, left_of(alloc, &ones, &x)?, &[GREATEST], 3)
 }

@@ -1,9 +1,10 @@
-//! Groups and tables whose parts are tested, when the tests run, for what the calls require.
+//! Groups and tables of given columns, codes and values.
 
 ghost use Rattle.std.specs.Prelude.{◌≡◌, ◌≤◌, ◌<◌, ◌/◌, ℕ, length, true, IfOk};
 ghost use Rattle.cla_layout.specs.Groups.{code_of};
 ghost use Rattle.cla_layout.specs.Tuples.{AreCodes};
 ghost use Rattle.cla_layout.specs.Layouts.{IsPart, IsPartition, all_columns, part_at};
+ghost use Rattle.cla_coded.specs.AnyGroups.{any_columns};
 ghost use Rattle.cla_coded.specs.Parts.{part_of, parts_of};
 
 use cla_coded::{AnyGroup, Part, Table};
@@ -13,13 +14,14 @@ use cla_rows::{Occurrences, counted};
 use std::alloc::Global;
 use std::test::Fail;
 
-pub(crate) type Entry = Int<47>;
+/// The numbers of these tables.
+pub type Entry = Int<47>;
 
 /// At most so many cells may a matrix have.
 const MOST_CELLS: usize = 1 << 26;
 
-/// The numbers of these integers.
-pub(crate) fn numbers(alloc: Global, of: &[i64]) -> Result<Vec<Entry>, Fail>
+/// The numbers of these integers. Refused where one isn't in range.
+pub fn numbers(alloc: Global, of: &[i64]) -> Result<Vec<Entry>, Fail>
     ensures { IfOk result (λ made. length made.items ≡ length of.now) }
 {
     let mut made = Vec::with_capacity(alloc, of.len())?;
@@ -64,14 +66,17 @@ fn expect_codes(alloc: Global, width: u32, codes: &[u32], values: usize) -> Resu
     Ok(())
 }
 
-/// The group of this kind of rows with these codes.
-pub(crate) fn group_of(
+/// The group of this kind of rows with these codes, whose tuples have these values. Refused where a code
+/// names no tuple, or a tuple has no row.
+pub fn group_of(
     alloc: Global,
     kind: Kind,
     width: u32,
     codes: &[u32],
     values: &[i64],
-) -> Result<AnyGroup<Entry>, Fail> {
+) -> Result<AnyGroup<Entry>, Fail>
+    ensures { IfOk result (λ g. any_columns g ≡ width) }
+{
     let values = numbers(alloc, values)?;
     expect_codes(alloc, width, codes, values.len())?;
     Ok(AnyGroup::from_codes(alloc, kind, width, codes, values)?)
@@ -137,14 +142,16 @@ fn expect_partition(alloc: Global, cols: u32, columns: &[u32]) -> Result<(), Fai
     Ok(())
 }
 
-/// The table of these parts.
-pub(crate) fn table_of<G: Group<Entry> + Drop>(
+/// The table of these parts. Refused where they don't make one.
+pub fn table_of<G: Group<Entry> + Drop>(
     alloc: Global,
     rows: u32,
     cols: u32,
     flipped: bool,
     parts: Vec<Part<G>>,
-) -> Result<Table<Entry, G>, Fail> {
+) -> Result<Table<Entry, G>, Fail>
+    ensures { IfOk result (λ t. t ≡ record { rows = rows; cols = cols; flipped = flipped; parts = parts.items }) }
+{
     if rows == 0 || cols == 0 || u64::from(rows) * u64::from(cols) > MOST_CELLS as u64 {
         return Err(Fail::new("no rows or columns, or too many cells"));
     }

@@ -1,6 +1,6 @@
 use Rattle.std.proofs.Common.{refl, arith}
 use Rattle.std.proofs.lemmas.Nat.{div-add-mod'}
-use Rattle.cla_prod_tests.proofs.checked.expect_codes.Goals as goal
+use Rattle.cla_checked_tables.proofs.tables.expect_codes.Goals as goal
 
 pub returns : goal.returns
 returns c =

@@ -1,6 +1,6 @@
 use Rattle.std.proofs.Common.{refl, arith}
-use Rattle.cla_prod_tests.proofs.ListedColumns.{none_past}
-use Rattle.cla_prod_tests.proofs.checked.expect_partition.Goals as goal
+use Rattle.cla_checked_tables.proofs.ListedColumns.{none_past}
+use Rattle.cla_checked_tables.proofs.tables.expect_partition.Goals as goal
 
 pub returns : goal.returns
 returns c =

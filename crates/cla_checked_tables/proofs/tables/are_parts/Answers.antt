@@ -2,7 +2,7 @@ use Rattle.std.proofs.Common.{◌≡◌, map, refl, ap, sym, subst, ◌∙◌, b
 use Rattle.std.proofs.lemmas.List.{get_or-map}
 use Rattle.cla_layout.specs.Layouts.{LayoutPart, IsPart, part_at, no_part}
 use Rattle.cla_coded.specs.Parts.{part_of}
-use Rattle.cla_prod_tests.proofs.checked.are_parts.Goals as goal
+use Rattle.cla_checked_tables.proofs.tables.are_parts.Goals as goal
 
 pub loop-part-preserved : goal.loop-part-preserved
 loop-part-preserved g c =

@@ -1,6 +1,6 @@
 use Rattle.std.proofs.Common.{◌<◌, ◌≤◌, ℕ}
 use Rattle.cla_layout.specs.Groups.{code_of}
-use Rattle.cla_prod_tests.proofs.checked.are_within.Given as goal
+use Rattle.cla_checked_tables.proofs.tables.are_within.Given as goal
 
 -- the items before this one are within
 abbrev pub invariant-loop-item : goal.invariant-loop-item

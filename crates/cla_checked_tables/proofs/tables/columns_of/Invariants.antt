@@ -1,7 +1,7 @@
 use Rattle.std.proofs.Common.{◌≡◌, take}
 use Rattle.cla_layout.specs.Layouts.{all_columns}
 use Rattle.cla_coded.specs.Parts.{parts_of}
-use Rattle.cla_prod_tests.proofs.checked.columns_of.Given as goal
+use Rattle.cla_checked_tables.proofs.tables.columns_of.Given as goal
 
 -- the columns of the parts before this one
 abbrev pub invariant-loop-part : goal.invariant-loop-part

@@ -1,6 +1,6 @@
 use Rattle.std.proofs.Common.{◌<◌, ℕ}
 use Rattle.cla_layout.specs.Groups.{code_of}
-use Rattle.cla_prod_tests.proofs.checked.are_rising.Given as goal
+use Rattle.cla_checked_tables.proofs.tables.are_rising.Given as goal
 
 -- the columns before place c rise
 abbrev pub invariant-loop-c : goal.invariant-loop-c

@@ -2,8 +2,8 @@ use Rattle.std.proofs.Common.{◌++◌, ℕ, List, take, ap, ◌∙◌}
 use Rattle.std.proofs.lemmas.List.{length-map, take_all}
 use Rattle.cla_layout.specs.Layouts.{all_columns}
 use Rattle.cla_coded.specs.Parts.{part_of, parts_of}
-use Rattle.cla_prod_tests.proofs.ListedColumns.{columns_taken}
-use Rattle.cla_prod_tests.proofs.checked.columns_of.Goals as goal
+use Rattle.cla_checked_tables.proofs.ListedColumns.{columns_taken}
+use Rattle.cla_checked_tables.proofs.tables.columns_of.Goals as goal
 
 pub loop-part-preserved : goal.loop-part-preserved
 loop-part-preserved g c =

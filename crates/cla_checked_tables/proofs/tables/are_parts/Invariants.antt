@@ -1,7 +1,7 @@
 use Rattle.std.proofs.Common.{◌<◌, ℕ}
 use Rattle.cla_layout.specs.Layouts.{IsPart, part_at}
 use Rattle.cla_coded.specs.Parts.{parts_of}
-use Rattle.cla_prod_tests.proofs.checked.are_parts.Given as goal
+use Rattle.cla_checked_tables.proofs.tables.are_parts.Given as goal
 
 -- those before this one are parts
 abbrev pub invariant-loop-part : goal.invariant-loop-part
