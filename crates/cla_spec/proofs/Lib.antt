@@ -1,6 +1,5 @@
 pub mod Examples
 pub mod LineLemmas
 pub mod Decimals
-pub mod ArrayFileLaws
 pub mod Sums
 pub mod Entries

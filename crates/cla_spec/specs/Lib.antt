@@ -1,6 +1,5 @@
 pub mod Numbers
 pub mod Matrix
 pub mod Lines
-pub mod ArrayFile
 pub mod Files
 pub mod Effects
