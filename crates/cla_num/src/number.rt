@@ -56,7 +56,8 @@ pub trait Number: Copy + Ord + Eq + Hash {
     /// It counts as one map evaluation either way.
     fn apply(op: CellOp, a: Self, b: Self, meter: &mut Meter) -> Result<Wide, ZeroDivisor>
         requires room { AreBelow operation_bound meter.old }
-        ensures value { MatchResult result (λ w. cell_value op (value a) (value b) ≡ Some w) (λ e. cell_value op (value a) (value b) ≡ None) }
+        ensures value { MatchResult result (λ w. cell_value op (value a) (value b) ≡ Some w)
+            (λ e. cell_value op (value a) (value b) ≡ None) }
         ensures counts { meter.new ≡ record meter.old { maps = meter.old.maps + 1 } };
 
     /// Puts the decimal text into the first bytes of `into`, and gives its length.
