@@ -2,14 +2,7 @@
 
 ghost use Rattle.std.specs.Prelude.{◌≡◌, None, IsSome};
 
-use crate::drip::Drip;
-use crate::file_sink::FileSink;
-use crate::files::Files;
-use crate::mem_files::MemFiles;
-use crate::mem_sink::MemSink;
-use crate::put::put_all;
-use crate::std_sink::StdSink;
-use crate::stop::{CallKind, Stop};
+use cla_io::{CallKind, Drip, FileSink, Files, MemFiles, MemSink, StdSink, Stop, put_all};
 use cla_num::Name;
 use std::alloc::Global;
 use std::collections::BTreeMap;

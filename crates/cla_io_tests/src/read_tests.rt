@@ -3,11 +3,7 @@
 ghost use Rattle.std.specs.Prelude.{◌≡◌, ◌≤◌, ◌^◌, None, IsSome, IfOk};
 ghost use Rattle.cla_io.specs.InputFrame.{ReadsOn};
 
-use crate::drip::Drip;
-use crate::files::Files;
-use crate::input::Input;
-use crate::mem_files::MemFiles;
-use crate::stop::{CallKind, InFault, Stop};
+use cla_io::{CallKind, Drip, Files, InFault, Input, MemFiles, Stop};
 use cla_num::Name;
 use std::alloc::Global;
 use std::collections::BTreeMap;

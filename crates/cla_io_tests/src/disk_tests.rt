@@ -2,11 +2,8 @@
 
 ghost use Rattle.std.specs.Prelude.{◌≡◌, None};
 
-use crate::disk::DiskFiles;
-use crate::files::Files;
-use crate::input::Input;
-use crate::stop::Stop;
 use crate::write_tests::store;
+use cla_io::{DiskFiles, Files, Input, Stop};
 use std::alloc::Global;
 use std::test::Fail;
 use std::time::SystemTime;
@@ -44,19 +41,20 @@ fn pattern(alloc: Global) -> Result<Vec<u8>, Fail> {
     Ok(bytes)
 }
 
-// A name of its own in the folder of temporary files, of 255 bytes, which ends in a space.
-fn new_name(rt: &HostRuntime) -> Result<String, Fail> {
+// A name of its own in the folder of temporary files, of this many bytes and 27 more, which ends in a space.
+fn new_name(rt: &HostRuntime, bytes: usize) -> Result<String, Fail> {
     let folder = env::temp_dir(rt)?;
     let now = SystemTime::now(rt)?.duration_since(SystemTime::UNIX_EPOCH)?;
-    let rest = "x".repeat(rt.alloc(), 228)?;
+    let rest = "x".repeat(rt.alloc(), bytes)?;
     Ok(format!(in rt.alloc(); "{}/cla_io {}{} ", folder.as_str(), now.as_nanos(), rest)?)
 }
 
+// The longest name that a file may have has 255 bytes.
 #[test]
 fn writes_and_reads_real_files(rt: HostRuntime) -> Result<(), Fail> {
     let alloc = rt.alloc();
     let bytes = pattern(alloc)?;
-    let name = new_name(&rt)?;
+    let name = new_name(&rt, 228)?;
     let mut files = DiskFiles::new(&rt, alloc);
     assert_eq!(rt; files.begin_read(&name), Ok(false));
     assert_eq!(rt; store(&mut files, &name, b"", &bytes), Ok(()));
@@ -80,5 +78,13 @@ fn faults_of_real_files(rt: HostRuntime) -> Result<(), Fail> {
         Err(Stop::Failed)
     );
     assert_eq!(rt; first_read(&mut files, folder.as_str()), Err(Stop::Failed));
+    let long = new_name(&rt, 229)?;
+    assert_eq!(rt; store(&mut files, &long, b"a", b"b"), Err(Stop::Failed));
+    assert_eq!(rt; first_read(&mut files, &long), Err(Stop::Failed));
+    // (nobody has a right to make a file there, the system's administrator neither)
+    assert_eq!(rt;
+        store(&mut files, "/sys/kernel/cla_io", b"a", b"b"),
+        Err(Stop::Failed)
+    );
     Ok(())
 }
