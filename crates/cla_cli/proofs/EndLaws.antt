@@ -1,10 +1,10 @@
 -- How the endings of parts make the endings of a run.
-use Rattle.std.proofs.Common.{◌≡◌, ℕ, List, [], ◌∷◌, length, Option, Some, None, Ok, Err, refl, sym, ap, subst, ◌∙◌, arith, inl, inr}
+use Rattle.std.proofs.Common.{◌≡◌, ℕ, List, [], ◌∷◌, length, Option, Some, None, Result, Ok, Err, refl, sym, ap, subst, ◌∙◌, arith, inl, inr}
 use Rattle.std.proofs.lemmas.List.{take_all}
 use Rattle.cla_spec.specs.Files.{Told}
 use Rattle.cla_spec.specs.Effects.{Effect, Out, World, applied, applied_one, IsFront, IsFrontBefore, grown}
 use Rattle.cla_spec.specs.Matrix.{Matrix}
-use Rattle.cla_num.specs.Counts.{Counts}
+use Rattle.cla_num.specs.Counts.{Counts, zero_counts}
 use Rattle.cla_io.specs.State.{State, Reading}
 use Rattle.cla_grammar.specs.Tree.{Statement}
 use Rattle.cla_cli.specs.declared.status.Status.{Status}
@@ -14,9 +14,9 @@ use Rattle.cla_cli.specs.declared.unfinished.Unfinished.TheVariants as unfinishe
 use Rattle.cla_cli.specs.declared.statements.Halted.{Halted}
 use Rattle.cla_cli.specs.declared.statements.Halted.TheVariants as halted
 use Rattle.cla_cli.specs.Texts.{memory_line, usage_line, unwritable_line}
-use Rattle.cla_cli.specs.Words.{RunScript, accepted_command}
-use Rattle.cla_cli.specs.Statements.{trace_of, script_work}
-use Rattle.cla_cli.specs.Outcome.{Outcome, refused, usage_refusal, status_after, line_after, statements_outcome, script_outcome, outcome_of}
+use Rattle.cla_cli.specs.Words.{Command, accepted_command}
+use Rattle.cla_cli.specs.Statements.{Trace}
+use Rattle.cla_cli.specs.Outcome.{Outcome, refused, usage_refusal, status_after, line_after, evaluated, command_outcome, outcome_of}
 use Rattle.cla_cli.specs.Run.{Ending, Settled, OutOfMemory, ReadFailed, WriteFailed, ending_of, IsRefusal, Written, FaultsCome, MayEnd, HasLine, HasFrontOfLine, Ends, EndsWhereTold, Completes, RiseBy, RiseByAtMost, CountsCome, CountsWhereTold, ReadsOnly, ReadsOnlyNeeded}
 use Rattle.cla_cli.specs.Runs.{world_of, Runs, HasHaltCause}
 use Rattle.cla_cli.specs.Parts.{Comes, ComesWhereTold, HasEnding, HasCounts, HasCountsWhereTold, IsNeeded, IsNeededWhereTold, Reaches, Lets, TellsHalt, TellsLine, Tells}
@@ -41,41 +41,46 @@ front_all [] w = refl
 front_all (e ∷ es) w = inr (inr (front_all es (applied_one e w)))
 
 whole_front : (line : List ℕ) (err err' : Written) → HasLine (Some line) err err' → HasFrontOfLine (Some line) err err'
-whole_front line err err' (inl h) = (length line, h ∙ ap (grown err.told) (sym (take_all (length line) line (omega arith))))
+whole_front line err err' (inl h) =
+    (length line, h ∙ ap (grown err.told) (sym (take_all (length line) line (omega arith))))
 whole_front line err err' (inr h) = h.1
 
 -- where a read or a refusal ends the script, nothing was put out
-read_ends_in : {T : Type 0} (next : T → Outcome) (o : Outcome) (t : Told) (old new : State) (out : Written) (e : Unfinished)
+read_ends_in : {T : Type 0} (next : T → Outcome) (o : Outcome) (t : Told) (old new : State) (out : Written)
+    (e : Unfinished)
     → Lets next o (Err e) → HasEnding {U = T} old new 0 0 (Err e) → Comes {U = Unit {0}} o t t old new out out (Err e)
-read_ends_in next o t old new out (unfinished.Refused status line) h ending = (h.0, ((ending.1.0, refl), (rw h.1 refl, sym h.2)))
-read_ends_in next o t old new out (unfinished.Unread line) h ending = ((ending.0.0, refl), (refl, (h.0, h.1, ap Some h.2)))
+read_ends_in next o t old new out (unfinished.Refused status line) h ending =
+    (h.0, ((ending.1.0, refl), (rw h.1 refl, sym h.2)))
+read_ends_in next o t old new out (unfinished.Unread line) h ending =
+    ((ending.0.0, refl), (refl, (h.0, h.1, ap Some h.2)))
 read_ends_in next o t old new out unfinished.OutputUnwritten h ending = absurd h
 read_ends_in next o t old new out unfinished.Memory h ending =
     (tt, (front_nothing o.effects (record { told = t; out = out.told }), refl))
 
-pub read_ends : {T : Type 0} (next : T → Outcome) (bits : ℕ) (told told' : Option Told) (name : List ℕ) (old new : State)
+pub read_ends : {T : Type 0} (next : T → Outcome) (o : Told → Outcome) (told told' : Option Told) (old new : State)
     (out : Written) (e : Unfinished)
-    → told' ≡ told → ((t : Told) → told ≡ Some t → Lets next (script_outcome bits t name) (Err e))
+    → told' ≡ told → ((t : Told) → told ≡ Some t → Lets next (o t) (Err e))
     → HasEnding {U = T} old new 0 0 (Err e)
-    → ComesWhereTold {U = Unit {0}} bits name told told' old new out out (Err e)
-read_ends next bits None told' name old new out e same h ending = same
-read_ends next bits (Some t) told' name old new out e same h ending =
-    subst (λ (t' : Option Told). ComesWhereTold {U = Unit {0}} bits name (Some t) t' old new out out (Err e)) (sym same)
-    (read_ends_in next (script_outcome bits t name) t old new out e (h t refl) ending)
+    → ComesWhereTold {U = Unit {0}} o told told' old new out out (Err e)
+read_ends next o None told' old new out e same h ending = same
+read_ends next o (Some t) told' old new out e same h ending =
+    subst (λ (t' : Option Told). ComesWhereTold {U = Unit {0}} o (Some t) t' old new out out (Err e)) (sym same)
+    (read_ends_in next (o t) t old new out e (h t refl) ending)
 
 -- where it was read, its statements decide
-pub statements_done : (bits : ℕ) (told told' : Option Told) (name : List ℕ) (xs : List Statement) (ms : List Matrix) (old new : State)
+pub statements_done : (o : Told → Outcome) (told told' : Option Told) (counts : Counts) (trace : Trace)
+    (old new : State)
     (out out' : Written)
-    → told' ≡ told → ((t : Told) → told ≡ Some t → Reaches (script_outcome bits t name) (statements_outcome bits xs ms))
+    → told' ≡ told → ((t : Told) → told ≡ Some t → Reaches (o t) (evaluated counts trace))
     → new.read_faults ≡ old.read_faults
-    → ((t : Told) → Runs {U = Unit {0}} t (trace_of bits [] xs ms) out.told out'.told (Ok tt))
+    → ((t : Told) → Runs {U = Unit {0}} t trace out.told out'.told (Ok tt))
     → HasHaltCause {U = Unit {0}} out.faults out'.faults (Ok tt)
-    → ComesWhereTold {U = Unit {0}} bits name told told' old new out out' (Ok tt)
-statements_done bits None told' name xs ms old new out out' same reaches reads runs cause = same
-statements_done bits (Some t) told' name xs ms old new out out' same reaches reads runs cause =
+    → ComesWhereTold {U = Unit {0}} o told told' old new out out' (Ok tt)
+statements_done o None told' counts trace old new out out' same reaches reads runs cause = same
+statements_done o (Some t) told' counts trace old new out out' same reaches reads runs cause =
     let r = reaches t refl in
-    let none : (trace_of bits [] xs ms).fault ≡ None = (runs t).0 in
-    subst (λ (t' : Option Told). ComesWhereTold {U = Unit {0}} bits name (Some t) t' old new out out' (Ok tt)) (sym same) (
+    let none : trace.fault ≡ None = (runs t).0 in
+    subst (λ (t' : Option Told). ComesWhereTold {U = Unit {0}} o (Some t) t' old new out out' (Ok tt)) (sym same) (
       r.status ∙ ap status_after none,
       (
         (reads, cause),
@@ -86,59 +91,68 @@ statements_done bits (Some t) told' name xs ms old new out out' same reaches rea
       ),
     )
 
-halts_in : (bits : ℕ) (t : Told) (o : Outcome) (xs : List Statement) (ms : List Matrix) (old new : State) (out out' : Written)
+halts_in : (t : Told) (o : Outcome) (counts : Counts) (trace : Trace) (old new : State) (out out' : Written)
     (h : Halted) (e : Unfinished)
-    → Reaches o (statements_outcome bits xs ms) → new.read_faults ≡ old.read_faults
-    → Runs {U = Unit {0}} t (trace_of bits [] xs ms) out.told out'.told (Err h)
+    → Reaches o (evaluated counts trace) → new.read_faults ≡ old.read_faults
+    → Runs {U = Unit {0}} t trace out.told out'.told (Err h)
     → HasHaltCause {U = Unit {0}} out.faults out'.faults (Err h) → TellsHalt h e
     → Comes {U = Unit {0}} o t t old new out out' (Err e)
-halts_in bits t o xs ms old new out out' (halted.Operator place fault) (unfinished.Refused status line) r reads runs cause tells = (
-  r.status ∙ ap status_after runs.0 ∙ sym tells.0,
-  (
-    (reads, cause),
-    (
-      runs.1 ∙ sym (ap (λ (es : List Effect). applied es (world_of t out.told)) r.effects),
-      ap Some tells.1 ∙ sym (r.line ∙ ap line_after runs.0),
-    ),
-  ),
-)
-halts_in bits t o xs ms old new out out' (halted.Operator place fault) unfinished.Memory r reads runs cause tells = (
+halts_in t o counts trace old new out out' (halted.Operator place fault) (unfinished.Refused status line) r reads runs
+    cause tells = (
+      r.status ∙ ap status_after runs.0 ∙ sym tells.0,
+      (
+        (reads, cause),
+        (
+          runs.1 ∙ sym (ap (λ (es : List Effect). applied es (world_of t out.told)) r.effects),
+          ap Some tells.1 ∙ sym (r.line ∙ ap line_after runs.0),
+        ),
+      ),
+    )
+halts_in t o counts trace old new out out' (halted.Operator place fault) unfinished.Memory r reads runs cause tells = (
   tt,
   (
     subst (λ (es : List Effect). IsFront es (world_of t out.told) (world_of t out'.told)) (sym r.effects)
-        (subst (λ (v : World). IsFront (trace_of bits [] xs ms).effects (world_of t out.told) v) (sym runs.1)
-        (front_all (trace_of bits [] xs ms).effects (world_of t out.told))),
+        (subst (λ (v : World). IsFront trace.effects (world_of t out.told) v) (sym runs.1)
+        (front_all trace.effects (world_of t out.told))),
     refl,
   ),
 )
-halts_in bits t o xs ms old new out out' halted.Unwritten unfinished.OutputUnwritten r reads runs cause tells = (
+halts_in t o counts trace old new out out' halted.Unwritten unfinished.OutputUnwritten r reads runs cause tells = (
   (reads, cause),
   (
     Out runs.0,
-    subst (λ (es : List Effect). IsFrontBefore es (Out runs.0) (world_of t out.told) (world_of t out'.told)) (sym r.effects) runs.1,
+    subst (λ (es : List Effect). IsFrontBefore es (Out runs.0) (world_of t out.told) (world_of t out'.told))
+        (sym r.effects) runs.1,
     cause,
     refl,
   ),
 )
-halts_in bits t o xs ms old new out out' halted.Memory unfinished.Memory r reads runs cause tells =
-    (tt, (subst (λ (es : List Effect). IsFront es (world_of t out.told) (world_of t out'.told)) (sym r.effects) runs, refl))
-halts_in bits t o xs ms old new out out' h e r reads runs cause tells = absurd tells
+halts_in t o counts trace old new out out' halted.Memory unfinished.Memory r reads runs cause tells = (
+  tt,
+  (
+    subst (λ (es : List Effect). IsFront es (world_of t out.told) (world_of t out'.told)) (sym r.effects) runs,
+    refl,
+  ),
+)
+halts_in t o counts trace old new out out' h e r reads runs cause tells = absurd tells
 
-pub statements_halt : (bits : ℕ) (told told' : Option Told) (name : List ℕ) (xs : List Statement) (ms : List Matrix) (old new : State)
+pub statements_halt : (o : Told → Outcome) (told told' : Option Told) (counts : Counts) (trace : Trace)
+    (old new : State)
     (out out' : Written) (h : Halted) (e : Unfinished)
-    → told' ≡ told → ((t : Told) → told ≡ Some t → Reaches (script_outcome bits t name) (statements_outcome bits xs ms))
+    → told' ≡ told → ((t : Told) → told ≡ Some t → Reaches (o t) (evaluated counts trace))
     → new.read_faults ≡ old.read_faults
-    → ((t : Told) → Runs {U = Unit {0}} t (trace_of bits [] xs ms) out.told out'.told (Err h))
+    → ((t : Told) → Runs {U = Unit {0}} t trace out.told out'.told (Err h))
     → HasHaltCause {U = Unit {0}} out.faults out'.faults (Err h) → TellsHalt h e
-    → ComesWhereTold {U = Unit {0}} bits name told told' old new out out' (Err e)
-statements_halt bits None told' name xs ms old new out out' h e same reaches reads runs cause tells = same
-statements_halt bits (Some t) told' name xs ms old new out out' h e same reaches reads runs cause tells =
-    subst (λ (t' : Option Told). ComesWhereTold {U = Unit {0}} bits name (Some t) t' old new out out' (Err e)) (sym same)
-    (halts_in bits t (script_outcome bits t name) xs ms old new out out' h e (reaches t refl) reads (runs t) cause tells)
+    → ComesWhereTold {U = Unit {0}} o told told' old new out out' (Err e)
+statements_halt o None told' counts trace old new out out' h e same reaches reads runs cause tells = same
+statements_halt o (Some t) told' counts trace old new out out' h e same reaches reads runs cause tells =
+    subst (λ (t' : Option Told). ComesWhereTold {U = Unit {0}} o (Some t) t' old new out out' (Err e)) (sym same)
+    (halts_in t (o t) counts trace old new out out' h e (reaches t refl) reads (runs t) cause tells)
 
 -- and which counts tell of it
 pub halt_ending : (old new : State) (f f' : ℕ) (h : Halted) (e : Unfinished)
-    → new.read_faults ≡ old.read_faults → new.misses ≡ old.misses → HasHaltCause {U = Unit {0}} f f' (Err h) → TellsHalt h e
+    → new.read_faults ≡ old.read_faults → new.misses ≡ old.misses → HasHaltCause {U = Unit {0}} f f' (Err h) →
+    TellsHalt h e
     → HasEnding {U = Unit {0}} old new f f' (Err e)
 halt_ending old new f f' (halted.Operator place fault) (unfinished.Refused status line) reads misses cause tells =
     rw tells.0 (tt, (reads, cause), misses)
@@ -147,15 +161,17 @@ halt_ending old new f f' h unfinished.Memory reads misses cause tells = tt
 halt_ending old new f f' h e reads misses cause tells = absurd tells
 
 -- and the operations that were counted
-pub done_counted : (bits : ℕ) (told : Option Told) (name : List ℕ) (xs : List Statement) (ms : List Matrix) (before now : Counts)
-    → ((t : Told) → told ≡ Some t → Reaches (script_outcome bits t name) (statements_outcome bits xs ms))
-    → RiseBy (script_work [] xs ms) before now
-    → HasCountsWhereTold {U = Unit {0}} bits name told before now (Ok tt)
-done_counted bits None name xs ms before now reaches rise = record { mults = omega (arith, rise.0); maps = omega (arith, rise.1) }
-done_counted bits (Some t) name xs ms before now reaches rise =
+pub done_counted : (o : Told → Outcome) (told : Option Told) (counts : Counts) (trace : Trace) (before now : Counts)
+    → ((t : Told) → told ≡ Some t → Reaches (o t) (evaluated counts trace))
+    → RiseBy counts before now
+    → HasCountsWhereTold {U = Unit {0}} o told before now (Ok tt)
+done_counted o None counts trace before now reaches rise =
+    record { mults = omega (arith, rise.0); maps = omega (arith, rise.1) }
+done_counted o (Some t) counts trace before now reaches rise =
     subst (λ (work : Counts). RiseBy work before now) (sym (reaches t refl).counts) rise
 
-halt_counted_in : (work before now : Counts) (h : Halted) (e : Unfinished) → TellsHalt h e → RiseByAtMost work before now
+halt_counted_in : (work before now : Counts) (h : Halted) (e : Unfinished) → TellsHalt h e →
+    RiseByAtMost work before now
     → HasCounts {U = Unit {0}} work before now (Err e)
 halt_counted_in work before now (halted.Operator place fault) (unfinished.Unread line) tells rise = absurd tells
 halt_counted_in work before now halted.Unwritten (unfinished.Unread line) tells rise = absurd tells
@@ -164,21 +180,21 @@ halt_counted_in work before now h (unfinished.Refused status line) tells rise = 
 halt_counted_in work before now h unfinished.OutputUnwritten tells rise = rise
 halt_counted_in work before now h unfinished.Memory tells rise = rise
 
-pub halt_counted : (bits : ℕ) (told : Option Told) (name : List ℕ) (xs : List Statement) (ms : List Matrix) (before now : Counts)
+pub halt_counted : (o : Told → Outcome) (told : Option Told) (counts : Counts) (trace : Trace) (before now : Counts)
     (h : Halted) (e : Unfinished)
-    → ((t : Told) → told ≡ Some t → Reaches (script_outcome bits t name) (statements_outcome bits xs ms)) → TellsHalt h e
-    → RiseByAtMost (script_work [] xs ms) before now
-    → HasCountsWhereTold {U = Unit {0}} bits name told before now (Err e)
-halt_counted bits None name xs ms before now h e reaches tells rise = rise.not_below
-halt_counted bits (Some t) name xs ms before now h e reaches tells rise =
-    halt_counted_in (script_outcome bits t name).counts before now h e tells
+    → ((t : Told) → told ≡ Some t → Reaches (o t) (evaluated counts trace)) → TellsHalt h e
+    → RiseByAtMost counts before now
+    → HasCountsWhereTold {U = Unit {0}} o told before now (Err e)
+halt_counted o None counts trace before now h e reaches tells rise = rise.not_below
+halt_counted o (Some t) counts trace before now h e reaches tells rise =
+    halt_counted_in (o t).counts before now h e tells
     (subst (λ (work : Counts). RiseByAtMost work before now) (sym (reaches t refl).counts) rise)
 
 -- the file that is being read is one that is needed
-pub needed_where_told : (bits : ℕ) (told : Option Told) (name : List ℕ) (reading : Option Reading)
-    → ((t : Told) → told ≡ Some t → IsNeeded (script_outcome bits t name).needed reading) → IsNeededWhereTold bits name told reading
-needed_where_told bits None name reading h = tt
-needed_where_told bits (Some t) name reading h = h t refl
+pub needed_where_told : (o : Told → Outcome) (told : Option Told) (reading : Option Reading)
+    → ((t : Told) → told ≡ Some t → IsNeeded (o t).needed reading) → IsNeededWhereTold o told reading
+needed_where_told o None reading h = tt
+needed_where_told o (Some t) reading h = h t refl
 
 none_counted : (counts before : Counts) → RiseByAtMost counts before before
 none_counted counts before = record
@@ -191,80 +207,115 @@ no_counts_in counts before unfinished.OutputUnwritten = none_counted counts befo
 no_counts_in counts before unfinished.Memory = none_counted counts before
 
 -- and nothing was counted
-pub no_counts : (bits : ℕ) (name : List ℕ) (told : Option Told) (before : Counts) (e : Unfinished)
-    → HasCountsWhereTold {U = Unit {0}} bits name told before before (Err e)
-no_counts bits name None before e = record { mults = omega arith; maps = omega arith }
-no_counts bits name (Some t) before e = no_counts_in (script_outcome bits t name).counts before e
+pub no_counts : (o : Told → Outcome) (told : Option Told) (before : Counts) (e : Unfinished)
+    → HasCountsWhereTold {U = Unit {0}} o told before before (Err e)
+no_counts o None before e = record { mults = omega arith; maps = omega arith }
+no_counts o (Some t) before e = no_counts_in (o t).counts before e
+
+-- nor is anything counted by a command whose outcome counts nothing
+pub uncounted : (o : Told → Outcome) (told : Option Told) (before : Counts) (r : Result (Unit {0}) Unfinished)
+    → ((t : Told) → (o t).counts ≡ zero_counts) → HasCountsWhereTold {U = Unit {0}} o told before before r
+uncounted o None before r none = record { mults = omega arith; maps = omega arith }
+uncounted o (Some t) before (Ok u) none =
+    subst (λ (counts : Counts). RiseBy counts before before) (sym (none t)) (omega arith, omega arith)
+uncounted o (Some t) before (Err e) none = no_counts_in (o t).counts before e
 
 -- a line that was told ends the run as its status says, or for want of memory
-line_ends : (o : Outcome) (told told' : Told) (old new : State) (out out' err err' : Written) (ending : Ending) (line : List ℕ)
+line_ends : (o : Outcome) (told told' : Told) (old new : State) (out out' err err' : Written) (ending : Ending)
+    (line : List ℕ)
     (status result : Status)
     → MayEnd o told told' old new out out' ending (Some line)
     → (HasLine (Some line) err err' → Ends o told told' old new out out' err err' status (ending_of status))
     → TellsLine line status err err' result
     → Ends o told told' old new out out' err err' result (ending_of result)
 line_ends o told told' old new out out' err err' ending line status result may whole (inl h) = rw h.0 (whole h.1)
-line_ends o told told' old new out out' err err' ending line status result may whole (inr h) = rw h.0 (ending, (Some line, may, h.1))
+line_ends o told told' old new out out' err err' ending line status result may whole (inr h) =
+    rw h.0 (ending, (Some line, may, h.1))
 
 -- a refusal's line
-refusal_ends : (o : Outcome) (told told' : Told) (old new : State) (out out' err err' : Written) (status : Status) (line : List ℕ)
-    → IsRefusal status → o.status ≡ status → MayEnd o told told' old new out out' Settled (Some line) → HasLine (Some line) err err'
+refusal_ends : (o : Outcome) (told told' : Told) (old new : State) (out out' err err' : Written) (status : Status)
+    (line : List ℕ)
+    → IsRefusal status → o.status ≡ status → MayEnd o told told' old new out out' Settled (Some line) →
+    HasLine (Some line) err err'
     → Ends o told told' old new out out' err err' status (ending_of status)
 refusal_ends o told told' old new out out' err err' status line refuses same may has =
-    rw (settled status refuses) (same, (may.0, (may.1.0, refl)), subst (λ (l : Option (List ℕ)). HasLine l err err') may.1.1 has)
+    rw (settled status refuses) (
+      same,
+      (may.0, (may.1.0, refl)),
+      subst (λ (l : Option (List ℕ)). HasLine l err err')
+          may.1.1 has,
+    )
 
 -- why a command isn't done, as it is told, is how the run ends
-tells_end : (o : Outcome) (told told' : Told) (old new : State) (out out' err err' : Written) (e : Unfinished) (result : Status)
-    → Comes {U = Unit {0}} o told told' old new out out' (Err e) → HasEnding {U = Unit {0}} old new out.faults out'.faults (Err e)
+tells_end : (o : Outcome) (told told' : Told) (old new : State) (out out' err err' : Written) (e : Unfinished)
+    (result : Status)
+    → Comes {U = Unit {0}} o told told' old new out out' (Err e) →
+    HasEnding {U = Unit {0}} old new out.faults out'.faults (Err e)
     → Tells e err err' result → Ends o told told' old new out out' err err' result (ending_of result)
 tells_end o told told' old new out out' err err' (unfinished.Refused status line) result comes ending tells =
     line_ends o told told' old new out out' err err' Settled line status result comes.1
     (λ has. refusal_ends o told told' old new out out' err err' status line ending.0 comes.0 comes.1 has) tells
 tells_end o told told' old new out out' err err' (unfinished.Unread line) result comes ending tells =
-    line_ends o told told' old new out out' err err' ReadFailed line answer.ReadFault result comes (λ has. (Some line, comes, has)) tells
+    line_ends o told told' old new out out' err err' ReadFailed line answer.ReadFault result comes
+    (λ has. (Some line, comes, has)) tells
 tells_end o told told' old new out out' err err' unfinished.OutputUnwritten result comes ending tells =
-    line_ends o told told' old new out out' err err' WriteFailed (unwritable_line (Out [])) answer.WriteFault result comes
+    line_ends o told told' old new out out' err err' WriteFailed (unwritable_line (Out [])) answer.WriteFault result
+    comes
     (λ has. (Some (unwritable_line (Out [])), comes, has)) tells
 tells_end o told told' old new out out' err err' unfinished.Memory result comes ending tells =
     line_ends o told told' old new out out' err err' OutOfMemory memory_line answer.Memory result comes
     (λ has. (OutOfMemory, (Some memory_line, comes, whole_front memory_line err err' has))) tells
 
-accepted_outcome : (bits : ℕ) (words : List (List ℕ)) (t : Told) (name : List ℕ) → accepted_command bits words ≡ Some (RunScript name)
-    → script_outcome bits t name ≡ outcome_of bits words t
-accepted_outcome bits words t name accepted = rw accepted refl
+accepted_outcome : (bits : ℕ) (words : List (List ℕ)) (t : Told) (command : Command) → accepted_command bits words
+    ≡ Some command
+    → command_outcome bits t command ≡ outcome_of bits words t
+accepted_outcome bits words t command accepted = rw accepted refl
 
-pub unfinished_ends : (bits : ℕ) (words : List (List ℕ)) (name : List ℕ) (told told' : Option Told) (old new : State)
+pub unfinished_ends : (bits : ℕ) (words : List (List ℕ)) (command : Command) (told told' : Option Told)
+    (old new : State)
     (out out' err err' : Written) (e : Unfinished) (result : Status)
-    → accepted_command bits words ≡ Some (RunScript name) → ComesWhereTold {U = Unit {0}} bits name told told' old new out out' (Err e)
+    → accepted_command bits words ≡ Some command → ComesWhereTold {U = Unit {0}} (λ t. command_outcome bits t command)
+    told told' old new out out' (Err e)
     → HasEnding {U = Unit {0}} old new out.faults out'.faults (Err e) → Tells e err err' result
     → EndsWhereTold bits words told told' old new out out' err err' result
-unfinished_ends bits words name None told' old new out out' err err' e result accepted comes ending tells = comes
-unfinished_ends bits words name (Some t) None old new out out' err err' e result accepted comes ending tells = absurd comes
-unfinished_ends bits words name (Some t) (Some t') old new out out' err err' e result accepted comes ending tells =
-    subst (λ (o : Outcome). Ends o t t' old new out out' err err' result (ending_of result)) (accepted_outcome bits words t name accepted)
-    (tells_end (script_outcome bits t name) t t' old new out out' err err' e result comes ending tells)
+unfinished_ends bits words command None told' old new out out' err err' e result accepted comes ending tells = comes
+unfinished_ends bits words command (Some t) None old new out out' err err' e result accepted comes ending tells =
+    absurd comes
+unfinished_ends bits words command (Some t) (Some t') old new out out' err err' e result accepted comes ending tells =
+    subst (λ (o : Outcome). Ends o t t' old new out out' err err' result (ending_of result))
+    (accepted_outcome bits words t command accepted)
+    (tells_end (command_outcome bits t command) t t' old new out out' err err' e result comes ending tells)
 
-pub done_ends : (bits : ℕ) (words : List (List ℕ)) (name : List ℕ) (told told' : Option Told) (old new : State) (out out' err : Written)
-    → accepted_command bits words ≡ Some (RunScript name) → ComesWhereTold {U = Unit {0}} bits name told told' old new out out' (Ok tt)
+pub done_ends : (bits : ℕ) (words : List (List ℕ)) (command : Command) (told told' : Option Told) (old new : State)
+    (out out' err : Written)
+    → accepted_command bits words ≡ Some command → ComesWhereTold {U = Unit {0}} (λ t. command_outcome bits t command)
+    told told' old new out out' (Ok tt)
     → EndsWhereTold bits words told told' old new out out' err err answer.Done
-done_ends bits words name None told' old new out out' err accepted comes = comes
-done_ends bits words name (Some t) None old new out out' err accepted comes = absurd comes
-done_ends bits words name (Some t) (Some t') old new out out' err accepted comes =
-    subst (λ (o : Outcome). Ends o t t' old new out out' err err answer.Done Settled) (accepted_outcome bits words t name accepted)
+done_ends bits words command None told' old new out out' err accepted comes = comes
+done_ends bits words command (Some t) None old new out out' err accepted comes = absurd comes
+done_ends bits words command (Some t) (Some t') old new out out' err accepted comes =
+    subst (λ (o : Outcome). Ends o t t' old new out out' err err answer.Done Settled)
+    (accepted_outcome bits words t command accepted)
     (comes.0, (comes.1.0, (comes.1.1.0, refl)), subst (λ (l : Option (List ℕ)). HasLine l err err) comes.1.1.1 refl)
 
 -- where nothing outside fails, the outcome is what comes
-pub completes_by : (bits : ℕ) (words : List (List ℕ)) (told told' : Option Told) (old new : State) (out out' err err' : Written)
+pub completes_by : (bits : ℕ) (words : List (List ℕ)) (told told' : Option Told) (old new : State)
+    (out out' err err' : Written)
     (result : Status)
     → EndsWhereTold bits words told told' old new out out' err err' result
-    → FaultsCome old new out.faults out'.faults (ending_of result) → Completes bits words told old new out.faults out'.faults result
+    → FaultsCome old new out.faults out'.faults (ending_of result) →
+    Completes bits words told old new out.faults out'.faults result
 completes_by bits words None told' old new out out' err err' result ends faults = tt
 completes_by bits words (Some t) None old new out out' err err' result ends faults = absurd ends
-completes_by bits words (Some t) (Some t') old new out out' err err' answer.Done ends faults = λ done no_read no_write. inl refl
-completes_by bits words (Some t) (Some t') old new out out' err err' answer.Memory ends faults = λ done no_read no_write. inr refl
-completes_by bits words (Some t) (Some t') old new out out' err err' answer.ReadFault ends faults = λ done no_read no_write. absurd
+completes_by bits words (Some t) (Some t') old new out out' err err' answer.Done ends faults =
+    λ done no_read no_write. inl refl
+completes_by bits words (Some t) (Some t') old new out out' err err' answer.Memory ends faults =
+    λ done no_read no_write. inr refl
+completes_by bits words (Some t) (Some t') old new out out' err err' answer.ReadFault ends faults =
+    λ done no_read no_write. absurd
     (no_read faults.0)
-completes_by bits words (Some t) (Some t') old new out out' err err' answer.WriteFault ends faults = λ done no_read no_write. absurd
+completes_by bits words (Some t) (Some t') old new out out' err err' answer.WriteFault ends faults =
+    λ done no_read no_write. absurd
     (no_write faults.1)
 completes_by bits words (Some t) (Some t') old new out out' err err' result ends faults = λ done no_read no_write.
     (let both = sym done ∙ ends.0 in absurd (cc))
@@ -274,13 +325,17 @@ usage_outcome : (bits : ℕ) (words : List (List ℕ)) (t : Told) → accepted_c
 usage_outcome bits words t none = rw none refl
 
 -- words that are no command
-pub usage_ends : (bits : ℕ) (words : List (List ℕ)) (told : Option Told) (s : State) (out err err' : Written) (result : Status)
+pub usage_ends : (bits : ℕ) (words : List (List ℕ)) (told : Option Told) (s : State) (out err err' : Written)
+    (result : Status)
     → accepted_command bits words ≡ None → TellsLine usage_line answer.Usage err err' result
     → EndsWhereTold bits words told told s s out out err err' result
 usage_ends bits words None s out err err' result none tells = refl
 usage_ends bits words (Some t) s out err err' result none tells =
     subst (λ (o : Outcome). Ends o t t s s out out err err' result (ending_of result)) (usage_outcome bits words t none)
-    (line_ends (refused usage_refusal) t t s s out out err err' Settled usage_line answer.Usage result ((refl, refl), (refl, refl))
+    (line_ends (refused usage_refusal) t t s s out out err err' Settled usage_line answer.Usage result (
+      (refl, refl),
+      (refl, refl),
+    )
     (λ has. (refl, ((refl, refl), (refl, refl)), has)) tells)
 
 pub usage_faults : (s : State) (faults : ℕ) (line : List ℕ) (err err' : Written) (result : Status)
@@ -288,45 +343,61 @@ pub usage_faults : (s : State) (faults : ℕ) (line : List ℕ) (err err' : Writ
 usage_faults s faults line err err' result (inl h) = rw h.0 (refl, refl)
 usage_faults s faults line err err' result (inr h) = rw h.0 tt
 
-pub done_counts : (bits : ℕ) (words : List (List ℕ)) (name : List ℕ) (told : Option Told) (before now : Counts)
-    → accepted_command bits words ≡ Some (RunScript name)
-    → HasCountsWhereTold {U = Unit {0}} bits name told before now (Ok tt) → CountsWhereTold bits words told before now answer.Done
-done_counts bits words name None before now accepted h = h
-done_counts bits words name (Some t) before now accepted h = subst (λ (o : Outcome). CountsCome o.counts before now answer.Done)
-    (accepted_outcome bits words t name accepted) h
+pub done_counts : (bits : ℕ) (words : List (List ℕ)) (command : Command) (told : Option Told) (before now : Counts)
+    → accepted_command bits words ≡ Some command
+    → HasCountsWhereTold {U = Unit {0}} (λ t. command_outcome bits t command) told before now (Ok tt) →
+    CountsWhereTold bits words told before now answer.Done
+done_counts bits words command None before now accepted h = h
+done_counts bits words command (Some t) before now accepted h =
+    subst (λ (o : Outcome). CountsCome o.counts before now answer.Done)
+    (accepted_outcome bits words t command accepted) h
 
-refusal_counts : (s : Status) (counts before now : Counts) → IsRefusal s → RiseByAtMost counts before now → CountsCome counts before now s
+refusal_counts : (s : Status) (counts before now : Counts) → IsRefusal s → RiseByAtMost counts before now →
+    CountsCome counts before now s
 refusal_counts answer.Done counts before now refuses h = absurd refuses
 refusal_counts answer.ReadFault counts before now refuses h = absurd refuses
 refusal_counts s counts before now refuses h = h
 
-unfinished_counts_in : (counts before now : Counts) (old new : State) (f f' : ℕ) (err err' : Written) (e : Unfinished) (result : Status)
-    → HasCounts {U = Unit {0}} counts before now (Err e) → HasEnding {U = Unit {0}} old new f f' (Err e) → Tells e err err' result
+unfinished_counts_in : (counts before now : Counts) (old new : State) (f f' : ℕ) (err err' : Written) (e : Unfinished)
+    (result : Status)
+    → HasCounts {U = Unit {0}} counts before now (Err e) → HasEnding {U = Unit {0}} old new f f' (Err e) →
+    Tells e err err' result
     → CountsCome counts before now result
-unfinished_counts_in counts before now old new f f' err err' (unfinished.Refused s line) result h ending (inl told) = rw told.0
+unfinished_counts_in counts before now old new f f' err err' (unfinished.Refused s line) result h ending (inl told) =
+    rw told.0
     (refusal_counts s counts before now ending.0 h)
-unfinished_counts_in counts before now old new f f' err err' (unfinished.Refused s line) result h ending (inr told) = rw told.0 h
-unfinished_counts_in counts before now old new f f' err err' (unfinished.Unread line) result h ending (inl told) = rw told.0 h
-unfinished_counts_in counts before now old new f f' err err' (unfinished.Unread line) result h ending (inr told) = rw (told.0, h)
+unfinished_counts_in counts before now old new f f' err err' (unfinished.Refused s line) result h ending (inr told) =
+    rw told.0 h
+unfinished_counts_in counts before now old new f f' err err' (unfinished.Unread line) result h ending (inl told) =
+    rw told.0 h
+unfinished_counts_in counts before now old new f f' err err' (unfinished.Unread line) result h ending (inr told) =
+    rw (told.0, h)
     (none_counted counts before)
-unfinished_counts_in counts before now old new f f' err err' unfinished.OutputUnwritten result h ending (inl told) = rw told.0 h
-unfinished_counts_in counts before now old new f f' err err' unfinished.OutputUnwritten result h ending (inr told) = rw told.0 h
+unfinished_counts_in counts before now old new f f' err err' unfinished.OutputUnwritten result h ending (inl told) =
+    rw told.0 h
+unfinished_counts_in counts before now old new f f' err err' unfinished.OutputUnwritten result h ending (inr told) =
+    rw told.0 h
 unfinished_counts_in counts before now old new f f' err err' unfinished.Memory result h ending (inl told) = rw told.0 h
 unfinished_counts_in counts before now old new f f' err err' unfinished.Memory result h ending (inr told) = rw told.0 h
 
-pub unfinished_counts : (bits : ℕ) (words : List (List ℕ)) (name : List ℕ) (told : Option Told) (before now : Counts) (old new : State)
+pub unfinished_counts : (bits : ℕ) (words : List (List ℕ)) (command : Command) (told : Option Told)
+    (before now : Counts) (old new : State)
     (f f' : ℕ) (err err' : Written) (e : Unfinished) (result : Status)
-    → accepted_command bits words ≡ Some (RunScript name) → HasCountsWhereTold {U = Unit {0}} bits name told before now (Err e)
+    → accepted_command bits words ≡ Some command →
+    HasCountsWhereTold {U = Unit {0}} (λ t. command_outcome bits t command) told before now (Err e)
     → HasEnding {U = Unit {0}} old new f f' (Err e) → Tells e err err' result
     → CountsWhereTold bits words told before now result
-unfinished_counts bits words name None before now old new f f' err err' e result accepted h ending tells = h
-unfinished_counts bits words name (Some t) before now old new f f' err err' e result accepted h ending tells =
-    subst (λ (o : Outcome). CountsCome o.counts before now result) (accepted_outcome bits words t name accepted)
-    (unfinished_counts_in (script_outcome bits t name).counts before now old new f f' err err' e result h ending tells)
+unfinished_counts bits words command None before now old new f f' err err' e result accepted h ending tells = h
+unfinished_counts bits words command (Some t) before now old new f f' err err' e result accepted h ending tells =
+    subst (λ (o : Outcome). CountsCome o.counts before now result) (accepted_outcome bits words t command accepted)
+    (unfinished_counts_in (command_outcome bits t command).counts before now old new f f' err err' e result h ending
+    tells)
 
 pub unfinished_faults : (old new : State) (f f' : ℕ) (err err' : Written) (e : Unfinished) (result : Status)
-    → HasEnding {U = Unit {0}} old new f f' (Err e) → Tells e err err' result → FaultsCome old new f f' (ending_of result)
-unfinished_faults old new f f' err err' (unfinished.Refused s line) result ending (inl told) = rw (told.0, settled s ending.0)
+    → HasEnding {U = Unit {0}} old new f f' (Err e) → Tells e err err' result →
+    FaultsCome old new f f' (ending_of result)
+unfinished_faults old new f f' err err' (unfinished.Refused s line) result ending (inl told) =
+    rw (told.0, settled s ending.0)
     ending.1
 unfinished_faults old new f f' err err' (unfinished.Refused s line) result ending (inr told) = rw told.0 tt
 unfinished_faults old new f f' err err' (unfinished.Unread line) result ending (inl told) = rw told.0 ending.0
@@ -339,7 +410,8 @@ unfinished_faults old new f f' err err' unfinished.Memory result ending (inr tol
 no_refusal : (s : Status) → IsRefusal s → s ≡ answer.Usage → ⊥
 no_refusal s refuses e = subst IsRefusal e refuses
 
-line_of_no_usage : (line : List ℕ) (err err' : Written) (s result : Status) → (s ≡ answer.Usage → ⊥) → TellsLine line s err err' result
+line_of_no_usage : (line : List ℕ) (err err' : Written) (s result : Status) → (s ≡ answer.Usage → ⊥) →
+    TellsLine line s err err' result
     → result ≡ answer.Usage → ⊥
 line_of_no_usage line err err' s result other (inl told) e = other (sym told.0 ∙ e)
 line_of_no_usage line err err' s result other (inr told) e = (let both = sym told.0 ∙ e in absurd (cc))
@@ -347,26 +419,33 @@ line_of_no_usage line err err' s result other (inr told) e = (let both = sym tol
 -- accepted words don't come to nothing
 pub no_usage : (old new : State) (f f' : ℕ) (err err' : Written) (e : Unfinished) (result : Status)
     → HasEnding {U = Unit {0}} old new f f' (Err e) → Tells e err err' result → result ≡ answer.Usage → ⊥
-no_usage old new f f' err err' (unfinished.Refused s line) result ending tells e = line_of_no_usage line err err' s result
+no_usage old new f f' err err' (unfinished.Refused s line) result ending tells e =
+    line_of_no_usage line err err' s result
     (no_refusal s ending.0) tells e
-no_usage old new f f' err err' (unfinished.Unread line) result ending tells e = line_of_no_usage line err err' answer.ReadFault result
+no_usage old new f f' err err' (unfinished.Unread line) result ending tells e =
+    line_of_no_usage line err err' answer.ReadFault result
     (λ h. absurd (cc)) tells e
-no_usage old new f f' err err' unfinished.OutputUnwritten result ending tells e = line_of_no_usage (unwritable_line (Out [])) err err'
+no_usage old new f f' err err' unfinished.OutputUnwritten result ending tells e =
+    line_of_no_usage (unwritable_line (Out [])) err err'
     answer.WriteFault result (λ h. absurd (cc)) tells e
-no_usage old new f f' err err' unfinished.Memory result ending tells e = line_of_no_usage memory_line err err' answer.Memory result
+no_usage old new f f' err err' unfinished.Memory result ending tells e =
+    line_of_no_usage memory_line err err' answer.Memory result
     (λ h. absurd (cc)) tells e
 
-only_needed : (needed : List (List ℕ)) (old reading : Option Reading) → IsNeeded needed reading → ReadsOnly needed old reading
+only_needed : (needed : List (List ℕ)) (old reading : Option Reading) → IsNeeded needed reading →
+    ReadsOnly needed old reading
 only_needed needed old None h = tt
 only_needed needed old (Some r) h = inr h
 
-pub reads_only_needed : (bits : ℕ) (words : List (List ℕ)) (name : List ℕ) (told : Option Told) (old reading : Option Reading)
-    → accepted_command bits words ≡ Some (RunScript name) → IsNeededWhereTold bits name told reading
+pub reads_only_needed : (bits : ℕ) (words : List (List ℕ)) (command : Command) (told : Option Told)
+    (old reading : Option Reading)
+    → accepted_command bits words ≡ Some command → IsNeededWhereTold (λ t. command_outcome bits t command) told reading
     → ReadsOnlyNeeded bits words told old reading
-reads_only_needed bits words name None old reading accepted h = tt
-reads_only_needed bits words name (Some t) old reading accepted h = subst (λ (o : Outcome). ReadsOnly o.needed old reading)
-    (accepted_outcome bits words t name accepted) (only_needed (script_outcome bits t name).needed old reading h)
+reads_only_needed bits words command None old reading accepted h = tt
+reads_only_needed bits words command (Some t) old reading accepted h =
+    subst (λ (o : Outcome). ReadsOnly o.needed old reading)
+    (accepted_outcome bits words t command accepted) (only_needed (command_outcome bits t command).needed old reading h)
 
-pub not_both : (bits : ℕ) (words : List (List ℕ)) (name : List ℕ) → accepted_command bits words ≡ Some (RunScript name)
+pub not_both : (bits : ℕ) (words : List (List ℕ)) (command : Command) → accepted_command bits words ≡ Some command
     → accepted_command bits words ≡ None → ⊥
-not_both bits words name accepted none = (let both = sym accepted ∙ none in absurd (cc))
+not_both bits words command accepted none = (let both = sym accepted ∙ none in absurd (cc))

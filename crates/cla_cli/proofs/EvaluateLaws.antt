@@ -21,17 +21,20 @@ pub exact_bad : (bits : ℕ) (place : Place) (exact : ℤ) (fault : OpFault) →
 exact_bad bits place exact fault is = rw is refl
 
 -- the sum of a product, and a product that is refused
-pub product_good : {N : Type 0} (value : N → ℤ) (bits : ℕ) (sum times : Place) (k : ℤ) (m p : Matrix) (r : Result (Option N) Failed)
+pub product_good : {N : Type 0} (value : N → ℤ) (bits : ℕ) (sum times : Place) (k : ℤ) (m p : Matrix)
+    (r : Result (Option N) Failed)
     → p ≡ scaled m k → product_fault bits m k ≡ None → MayComeTo value (Some (sum_of bits sum p)) r
     → MayComeTo value (Some (product_sum_of bits sum times k m)) r
 product_good value bits sum times k m p r is none comes = rw none (rw is at comes)
 
-pub product_bad : (bits : ℕ) (sum times : Place) (k : ℤ) (m : Matrix) (fault : OpFault) → product_fault bits m k ≡ Some fault
+pub product_bad : (bits : ℕ) (sum times : Place) (k : ℤ) (m : Matrix) (fault : OpFault) → product_fault bits m k
+    ≡ Some fault
     → Some (product_sum_of bits sum times k m) ≡ Some (Err (times, fault))
 product_bad bits sum times k m fault is = rw is refl
 
 -- the counts of a sum
-pub sum_counted : {T : Type 0} (n : ℕ) (before now : Counts) (r : Result T Failed) → now ≡ record before { mults = before.mults + n }
+pub sum_counted : {T : Type 0} (n : ℕ) (before now : Counts) (r : Result T Failed) →
+    now ≡ record before { mults = before.mults + n }
     → CountsTo (record { mults = n; maps = 0 }) before now r
 sum_counted n before now (Ok x) is = rw is (refl, omega arith)
 sum_counted n before now (Err e) is = rw is
@@ -49,7 +52,11 @@ product_counted n m before mid now (Err e) same is rise =
     let first : mid.mults ≡ before.mults = ap (λ (c : Counts). c.mults) is in
     let second : mid.maps ≡ before.maps + n = ap (λ (c : Counts). c.maps) is in
     record {
-      not_below = record { mults = omega (arith, rise.not_below.mults, first); maps = omega (arith, rise.not_below.maps, second) };
+      not_below = record {
+        mults = omega (arith, rise.not_below.mults, first);
+        maps =
+            omega (arith, rise.not_below.maps, second);
+      };
       mults = omega (arith, rise.mults, first, same);
       maps = omega (arith, rise.maps, second);
     }

@@ -6,6 +6,8 @@ use Rattle.cla_grammar.specs.declared.words.Call.TheVariants as call
 use Rattle.cla_grammar.specs.Tree.{Named, Apply}
 use Rattle.cla_cli.specs.Outcome.{place_at}
 use Rattle.cla_print.specs.Texts.{Scalar, Table, printed}
+use Rattle.cla_market.specs.declared.fault.MtxFault.TheVariants as mtx
+use Rattle.cla_cli.specs.Texts.{table_line, budget_line}
 use Rattle.cla_cli.specs.Statements.{value_of}
 
 abbrev square : Matrix
@@ -15,10 +17,19 @@ pub table_is : printed (Table square) ≡ codes "1 -2\n3 4\n"
 unfolding digits
 table_is = refl
 
-pub sum_is : value_of 47 ((codes "X", square) ∷ []) (Apply (place_at 2 7) call.Sum (Named (place_at 2 11) (codes "X"))) ≡ Some
+pub sum_is : value_of 47 ((codes "X", square) ∷ []) (Apply (place_at 2 7) call.Sum (Named (place_at 2 11) (codes "X")))
+    ≡ Some
     (Ok (Scalar (pos 6)))
 sum_is = refl
 
 pub transpose_does_not_run : value_of 47 ((codes "X", square) ∷ [])
     (Apply (place_at 2 7) call.Transpose (Named (place_at 2 9) (codes "X"))) ≡ None
 transpose_does_not_run = refl
+
+pub too_long_is : table_line (codes "x.mtx") mtx.TooLong ≡ codes "limit x.mtx: more than 4294967296 bytes\n"
+unfolding digits
+too_long_is = refl
+
+pub over_is : budget_line (codes "x.mtx") 34 33 ≡ codes "budget x.mtx: needs 34, has 33\n"
+unfolding digits
+over_is = refl

@@ -8,3 +8,7 @@ pub mod EvaluateLaws
 pub mod ScriptLaws
 pub mod EndingLaws
 pub mod InputsLaws
+pub mod StatsLaws
+pub mod BudgetLaws
+pub mod GroupLaws
+pub mod WordLaws

@@ -19,20 +19,24 @@ abbrev pub fresh : ℕ → Progress
 fresh limit = record { ahead = []; at = 0; limit = limit; line = []; lines = 0; ended = false }
 
 -- it has the whole file ahead
-fresh_ahead : (told : Told) (told' : Option Told) (reading : Option Reading) (name text : List ℕ) (limit : ℕ) → told' ≡ Some told
+fresh_ahead : (told : Told) (told' : Option Told) (reading : Option Reading) (name text : List ℕ) (limit : ℕ) →
+    told' ≡ Some told
     → reading ≡ Some (record { name = name; place = 0 }) → fin.get told name ≡ Some text
     → ahead_of (fresh limit) (left_where_told told' reading) ≡ Some text
 fresh_ahead told told' reading name text limit e f h = rw (e, f, h) refl
 
-is_text : (text : List ℕ) (q : Progress) (bytes : Vec ℕ Global) (o2 : Option (List ℕ)) → length bytes.items ≤ script_limit
+is_text : (text : List ℕ) (q : Progress) (bytes : Vec ℕ Global) (o2 : Option (List ℕ)) →
+    length bytes.items ≤ script_limit
     → TakesWholeWhereTold (fresh script_limit) q (Some text) o2 (Ok bytes) → IsText text bytes
 is_text text q bytes None short h = absurd h
 is_text text q bytes (Some after) short h = (h.0, rw h.0 at short)
 
 -- a script's text that was read
-pub text_read : (told told' : Option Told) (reading : Option Reading) (name : List ℕ) (bytes : Vec ℕ Global) (p q : Progress)
+pub text_read : (told told' : Option Told) (reading : Option Reading) (name : List ℕ) (bytes : Vec ℕ Global)
+    (p q : Progress)
     (o2 : Option (List ℕ)) → told' ≡ told → Opens {R = TooLong} told name reading (Ok tt) → p ≡ fresh script_limit
-    → length bytes.items ≤ script_limit → TakesWholeWhereTold p q (ahead_of p (left_where_told told' reading)) o2 (Ok bytes)
+    → length bytes.items ≤ script_limit → TakesWholeWhereTold p q (ahead_of p (left_where_told told' reading)) o2
+    (Ok bytes)
     → ReadsText told name (Ok bytes)
 text_read None told' reading name bytes p q o2 same opens start short takes = tt
 text_read (Some t) told' reading name bytes p q o2 same opens start short takes =
@@ -45,7 +49,8 @@ is_too_long text q None same h = absurd h
 is_too_long text q (Some after) same h = rw same at h
 
 -- one that is too long
-pub text_too_long : (told told' : Option Told) (reading : Option Reading) (name : List ℕ) (p q : Progress) (o2 : Option (List ℕ))
+pub text_too_long : (told told' : Option Told) (reading : Option Reading) (name : List ℕ) (p q : Progress)
+    (o2 : Option (List ℕ))
     (fault : TooLong)
     → told' ≡ told → Opens {R = TooLong} told name reading (Ok tt) → p ≡ fresh script_limit
     → q.limit ≡ p.limit → TakesWholeWhereTold p q (ahead_of p (left_where_told told' reading)) o2 (Err input.TooLong)
@@ -62,9 +67,11 @@ is_table bits text m None h = absurd h
 is_table bits text m (Some after) h = h.0
 
 -- a table that was read
-pub table_read : (bits : ℕ) (told told' : Option Told) (reading : Option Reading) (name : List ℕ) (m : Matrix) (p : Progress)
+pub table_read : (bits : ℕ) (told told' : Option Told) (reading : Option Reading) (name : List ℕ) (m : Matrix)
+    (p : Progress)
     (o2 : Option (List ℕ)) → told' ≡ told → Opens {R = MtxFault} told name reading (Ok tt) → p ≡ fresh table_limit
-    → ReadsTextWhereTold bits p.limit (ahead_of p (left_where_told told' reading)) o2 (Ok m) → ReadsTable bits told name (Ok m)
+    → ReadsTextWhereTold bits p.limit (ahead_of p (left_where_told told' reading)) o2 (Ok m) →
+    ReadsTable bits told name (Ok m)
 table_read bits None told' reading name m p o2 same opens start reads = tt
 table_read bits (Some t) told' reading name m p o2 same opens start reads =
     let ahead = fresh_ahead t told' reading name opens.1.0 table_limit same opens.0 opens.1.1 in

@@ -11,6 +11,7 @@ use Rattle.cla_io.specs.State.{Reading}
 use Rattle.cla_market.specs.declared.fault.MtxFault.{MtxFault}
 use Rattle.cla_market.specs.Texts.{matrix_in, fault_in, first_bad_line}
 use Rattle.cla_grammar.specs.Tree.{Statement}
+use Rattle.cla_grouping.specs.Grouping.{grouping_of, packed_size}
 use Rattle.cla_cli.specs.declared.status.Status.{Status}
 use Rattle.cla_cli.specs.declared.unread.Unread.{Unread}
 use Rattle.cla_cli.specs.declared.unread.Unread.TheVariants as unread
@@ -18,10 +19,10 @@ use Rattle.cla_cli.specs.declared.unread.TooLong.{TooLong}
 use Rattle.cla_cli.specs.declared.unfinished.Unfinished.{Unfinished}
 use Rattle.cla_cli.specs.declared.unfinished.Unfinished.TheVariants as unfinished
 use Rattle.cla_cli.specs.Limits.{script_limit, table_limit}
-use Rattle.cla_cli.specs.Outcome.{Outcome, Refusal, refused, needing, missing_refusal, limit_refusal, table_refusal, unless_refused, checked_script, with_table, with_tables, reads_outcome, script_outcome}
+use Rattle.cla_cli.specs.Outcome.{Outcome, Refusal, refused, needing, missing_refusal, limit_refusal, table_refusal, budget_refusal, unless_larger, unless_refused, checked_script, with_table, with_tables, reads_outcome, script_outcome}
 use Rattle.cla_cli.specs.Needed.{ReadsNoOther, ReadsText, ReadsTable}
 use Rattle.cla_cli.specs.Run.{ReadsOnly}
-use Rattle.cla_cli.specs.Parts.{TellsUnread, refusal_of_text, IsNeeded, Reaches, Lets, Passes}
+use Rattle.cla_cli.specs.Parts.{Fits, TellsUnread, refusal_of_text, IsNeeded, Reaches, Lets, Passes}
 
 -- checks that pass lead from one outcome to the next
 pub reaches_itself : (o : Outcome) → Reaches o o
@@ -43,10 +44,17 @@ needed_later : (name first : List ℕ) (names : List (List ℕ)) → Contains na
 needed_later name first names has = (suc has.0, omega (arith, has.1), has.2)
 
 pub needing_reaches : (name : List ℕ) (o : Outcome) → Reaches (needing name o) o
-needing_reaches name o = record
-    { status = refl; effects = refl; counts = refl; line = refl; needed = λ other has. needed_later other name o.needed has }
+needing_reaches name o = record {
+  status = refl;
+  effects = refl;
+  counts = refl;
+  line = refl;
+  needed =
+      λ other has. needed_later other name o.needed has;
+}
 
-pub lets_reached : {T : Type 0} (next : T → Outcome) (o p : Outcome) (r : Result T Unfinished) → Reaches o p → Lets next p r
+pub lets_reached : {T : Type 0} (next : T → Outcome) (o p : Outcome) (r : Result T Unfinished) → Reaches o p →
+    Lets next p r
     → Lets next o r
 lets_reached next o p (Ok x) on h = reaches_on o p (next x) on h
 lets_reached next o p (Err (unfinished.Refused status line)) on h = (on.status ∙ h.0, on.effects ∙ h.1, on.line ∙ h.2)
@@ -55,7 +63,8 @@ lets_reached next o p (Err unfinished.OutputUnwritten) on h = absurd h
 lets_reached next o p (Err unfinished.Memory) on h = tt
 
 -- an error lets nothing follow
-pub lets_error : {T U : Type 0} (next : T → Outcome) (then : U → Outcome) (o : Outcome) (e : Unfinished) → Lets next o (Err e)
+pub lets_error : {T U : Type 0} (next : T → Outcome) (then : U → Outcome) (o : Outcome) (e : Unfinished) →
+    Lets next o (Err e)
     → Lets then o (Err e)
 lets_error next then o (unfinished.Refused status line) h = h
 lets_error next then o (unfinished.Unread line) h = h
@@ -63,7 +72,8 @@ lets_error next then o unfinished.OutputUnwritten h = absurd h
 lets_error next then o unfinished.Memory h = tt
 
 -- a check of a script decides as its outcome says
-pub passes_lets : {T X : Type 0} (view : T → X) (next : X → Outcome) (checked : Result X Refusal) (r : Result T Unfinished)
+pub passes_lets : {T X : Type 0} (view : T → X) (next : X → Outcome) (checked : Result X Refusal)
+    (r : Result T Unfinished)
     → Passes view checked r → Lets (λ x. next (view x)) (unless_refused checked next) r
 passes_lets view next checked (Ok x) h = subst (λ c. Reaches (unless_refused c next) (next (view x))) (sym h)
     (reaches_itself (next (view x)))
@@ -75,143 +85,218 @@ passes_lets view next checked (Err unfinished.OutputUnwritten) h = absurd h
 passes_lets view next checked (Err unfinished.Memory) h = tt
 
 -- a script whose text was read
-script_there : (bits : ℕ) (told : Told) (name text : List ℕ) → fin.get told name ≡ Some text → length text ≤ script_limit
-    → script_outcome bits told name ≡ needing name (unless_refused (checked_script bits text) (reads_outcome bits told))
-script_there bits told name text there short = rw (there, le-leb (length text) script_limit short) refl
+script_there : (bits budget : ℕ) (told : Told) (name text : List ℕ) → fin.get told name ≡ Some text →
+    length text ≤ script_limit
+    → script_outcome bits budget told name
+    ≡ needing name (unless_refused (checked_script bits text) (reads_outcome bits budget told))
+script_there bits budget told name text there short = rw (there, le-leb (length text) script_limit short) refl
 
-pub script_reached : (bits : ℕ) (told : Told) (name text : List ℕ) → fin.get told name ≡ Some text → length text ≤ script_limit
-    → Reaches (script_outcome bits told name) (unless_refused (checked_script bits text) (reads_outcome bits told))
-script_reached bits told name text there short = rw (script_there bits told name text there short) (needing_reaches name _)
+pub script_reached : (bits budget : ℕ) (told : Told) (name text : List ℕ) → fin.get told name ≡ Some text →
+    length text ≤ script_limit
+    → Reaches (script_outcome bits budget told name)
+    (unless_refused (checked_script bits text) (reads_outcome bits budget told))
+script_reached bits budget told name text there short =
+    rw (script_there bits budget told name text there short) (needing_reaches name _)
 
-pub script_read : {T : Type 0} (view : T → List Statement) (bits : ℕ) (told : Told) (name text bytes : List ℕ) (r : Result T Unfinished)
-    → fin.get told name ≡ Some text → bytes ≡ text → length text ≤ script_limit → Passes view (checked_script bits bytes) r
-    → Lets (λ x. reads_outcome bits told (view x)) (script_outcome bits told name) r
-script_read view bits told name text bytes r there same short passes =
-    lets_reached (λ x. reads_outcome bits told (view x)) (script_outcome bits told name)
-    (unless_refused (checked_script bits text) (reads_outcome bits told)) r
-    (script_reached bits told name text there short)
-    (passes_lets view (reads_outcome bits told) (checked_script bits text) r (rw same at passes))
+pub script_read : {T : Type 0} (view : T → List Statement) (bits budget : ℕ) (told : Told) (name text bytes : List ℕ)
+    (r : Result T Unfinished)
+    → fin.get told name ≡ Some text → bytes ≡ text → length text ≤ script_limit →
+    Passes view (checked_script bits bytes) r
+    → Lets (λ x. reads_outcome bits budget told (view x)) (script_outcome bits budget told name) r
+script_read view bits budget told name text bytes r there same short passes =
+    lets_reached (λ x. reads_outcome bits budget told (view x)) (script_outcome bits budget told name)
+    (unless_refused (checked_script bits text) (reads_outcome bits budget told)) r
+    (script_reached bits budget told name text there short)
+    (passes_lets view (reads_outcome bits budget told) (checked_script bits text) r (rw same at passes))
 
 -- what a refusal leaves, whatever the files that were read
 refused_as : (o : Outcome) (refusal : Refusal) (names : List (List ℕ)) (status : Status) (line : List ℕ)
     → o ≡ record (refused refusal) { needed = names } → status ≡ refusal.status → line ≡ refusal.line
     → (o.status ≡ status) × (o.effects ≡ []) × (o.line ≡ Some line)
-refused_as o refusal names status line e a b =
-    (ap (λ (x : Outcome). x.status) e ∙ sym a, ap (λ (x : Outcome). x.effects) e, ap (λ (x : Outcome). x.line) e ∙ ap Some (sym b))
+refused_as o refusal names status line e a b = (
+  ap (λ (x : Outcome). x.status) e ∙ sym a,
+  ap (λ (x : Outcome). x.effects) e,
+  ap (λ (x : Outcome). x.line) e
+      ∙ ap Some (sym b),
+)
 
 -- a script that isn't there, or is too long
-script_missing : (bits : ℕ) (told : Told) (name : List ℕ) → fin.get told name ≡ None
-    → script_outcome bits told name ≡ record (refused (missing_refusal name)) { needed = name ∷ [] }
-script_missing bits told name none = rw none refl
+script_missing : (bits budget : ℕ) (told : Told) (name : List ℕ) → fin.get told name ≡ None
+    → script_outcome bits budget told name ≡ record (refused (missing_refusal name)) { needed = name ∷ [] }
+script_missing bits budget told name none = rw none refl
 
 longer : (n limit : ℕ) → limit < n → nat_le n limit ≡ false
 longer n limit h = grind (arith, nat_tests)
 
-script_too_long : (bits : ℕ) (told : Told) (name text : List ℕ) → fin.get told name ≡ Some text → script_limit < length text
-    → script_outcome bits told name ≡ record (refused (limit_refusal name script_limit)) { needed = name ∷ [] }
-script_too_long bits told name text there long = rw (there, longer (length text) script_limit long) refl
+script_too_long : (bits budget : ℕ) (told : Told) (name text : List ℕ) → fin.get told name ≡ Some text →
+    script_limit < length text
+    → script_outcome bits budget told name ≡ record (refused (limit_refusal name script_limit)) { needed = name ∷ [] }
+script_too_long bits budget told name text there long = rw (there, longer (length text) script_limit long) refl
 
 -- why a script isn't read, as it is told
-pub script_unread : {T : Type 0} (next : T → Outcome) (bits : ℕ) (told : Told) (name : List ℕ) (u : Unread TooLong) (r : Unfinished)
+pub script_unread : {T : Type 0} (next : T → Outcome) (bits budget : ℕ) (told : Told) (name : List ℕ)
+    (u : Unread TooLong) (r : Unfinished)
     → ReadsText (Some told) name (Err u) → TellsUnread (refusal_of_text name) name u r
-    → Lets next (script_outcome bits told name) (Err r)
-script_unread next bits told name u unfinished.Memory h t = tt
-script_unread next bits told name unread.Missing (unfinished.Refused status line) h t = refused_as _ (missing_refusal name)
-    (name ∷ []) status line (script_missing bits told name h) t.0 t.1
-script_unread next bits told name (unread.Refused fault) (unfinished.Refused status line) h t = refused_as _
-    (limit_refusal name script_limit) (name ∷ []) status line (script_too_long bits told name h.0 h.1 h.2) t.0 t.1
-script_unread next bits told name unread.Fault (unfinished.Unread line) h t = (name, needed_first name _, t)
-script_unread next bits told name u r h t = absurd t
+    → Lets next (script_outcome bits budget told name) (Err r)
+script_unread next bits budget told name u unfinished.Memory h t = tt
+script_unread next bits budget told name unread.Missing (unfinished.Refused status line) h t =
+    refused_as _ (missing_refusal name)
+    (name ∷ []) status line (script_missing bits budget told name h) t.0 t.1
+script_unread next bits budget told name (unread.Refused fault) (unfinished.Refused status line) h t = refused_as _
+    (limit_refusal name script_limit) (name ∷ []) status line (script_too_long bits budget told name h.0 h.1 h.2) t.0
+    t.1
+script_unread next bits budget told name unread.Fault (unfinished.Unread line) h t = (name, needed_first name _, t)
+script_unread next bits budget told name u r h t = absurd t
 
 -- a table that was read
-table_there : (bits : ℕ) (told : Told) (name text : List ℕ) (m : Matrix) (next : Matrix → Outcome) → fin.get told name ≡ Some text
-    → matrix_in bits table_limit text ≡ Ok m → with_table bits told name next ≡ needing name (next m)
-table_there bits told name text m next there found = rw (there, found) refl
+table_there : (bits budget : ℕ) (told : Told) (name text : List ℕ) (m : Matrix) (next : Matrix → Outcome)
+    → fin.get told name ≡ Some text → matrix_in bits table_limit text ≡ Ok m
+    → with_table bits budget told name next
+    ≡ needing name (unless_larger name budget (packed_size (grouping_of m)) (next m))
+table_there bits budget told name text m next there found = rw (there, found) refl
 
-pub table_read : (bits : ℕ) (told : Told) (name : List ℕ) (m : Matrix) (next : Matrix → Outcome)
-    → ReadsTable bits (Some told) name (Ok m) → Reaches (with_table bits told name next) (next m)
-table_read bits told name m next h = rw (table_there bits told name h.0 m next h.1 h.2) (needing_reaches name (next m))
+table_read : (bits budget : ℕ) (told : Told) (name : List ℕ) (m : Matrix) (next : Matrix → Outcome)
+    → ReadsTable bits (Some told) name (Ok m)
+    → Reaches (with_table bits budget told name next) (unless_larger name budget (packed_size (grouping_of m)) (next m))
+table_read bits budget told name m next h =
+    rw (table_there bits budget told name h.0 m next h.1 h.2) (needing_reaches name _)
+
+-- one that is within its budget
+fitting : (name : List ℕ) (budget size : ℕ) (o : Outcome) → size ≤ budget → Reaches (unless_larger name budget size o) o
+fitting name budget size o fits = rw (le-leb size budget fits) (reaches_itself o)
+
+pub matrix_read : (bits budget : ℕ) (told : Told) (name : List ℕ) (m : Matrix) (next : Matrix → Outcome)
+    → ReadsTable bits (Some told) name (Ok m) → Fits {U = Unit {0}} name budget (packed_size (grouping_of m)) (Ok tt)
+    → Reaches (with_table bits budget told name next) (next m)
+matrix_read bits budget told name m next h fits =
+    let size = packed_size (grouping_of m) in
+    reaches_on (with_table bits budget told name next) (unless_larger name budget size (next m)) (next m)
+    (table_read bits budget told name m next h) (fitting name budget size (next m) fits)
+
+-- and one that isn't
+over : (name : List ℕ) (budget size : ℕ) (o : Outcome) → budget < size
+    → unless_larger name budget size o ≡ record (refused (budget_refusal name size budget)) { needed = [] }
+over name budget size o past = rw (longer size budget past) refl
+
+exceeds : {T : Type 0} (next : T → Outcome) (name : List ℕ) (budget size : ℕ) (o : Outcome) (e : Unfinished)
+    → Fits {U = Unit {0}} name budget size (Err e) → Lets next (unless_larger name budget size o) (Err e)
+exceeds next name budget size o (unfinished.Refused status line) h =
+    refused_as _ (budget_refusal name size budget) [] status line (over name budget size o h.0) h.1.0 h.1.1
+exceeds next name budget size o unfinished.Memory h = tt
+exceeds next name budget size o e h = absurd h.1
+
+pub matrix_exceeds : {T : Type 0} (then : T → Outcome) (bits budget : ℕ) (told : Told) (name : List ℕ) (m : Matrix)
+    (next : Matrix → Outcome) (e : Unfinished)
+    → ReadsTable bits (Some told) name (Ok m) → Fits {U = Unit {0}} name budget (packed_size (grouping_of m)) (Err e)
+    → Lets then (with_table bits budget told name next) (Err e)
+matrix_exceeds then bits budget told name m next e h fits =
+    let size = packed_size (grouping_of m) in
+    lets_reached then (with_table bits budget told name next) (unless_larger name budget size (next m)) (Err e)
+    (table_read bits budget told name m next h) (exceeds then name budget size (next m) e fits)
 
 -- a table that isn't there, or isn't of the form
-table_missing : (bits : ℕ) (told : Told) (name : List ℕ) (next : Matrix → Outcome) → fin.get told name ≡ None
-    → with_table bits told name next ≡ record (refused (missing_refusal name)) { needed = name ∷ [] }
-table_missing bits told name next none = rw none refl
+table_missing : (bits budget : ℕ) (told : Told) (name : List ℕ) (next : Matrix → Outcome) → fin.get told name ≡ None
+    → with_table bits budget told name next ≡ record (refused (missing_refusal name)) { needed = name ∷ [] }
+table_missing bits budget told name next none = rw none refl
 
 the_fault : (r : Result Matrix MtxFault) (fault : MtxFault) → fault_in r ≡ Some fault → r ≡ Err fault
 the_fault (Ok m) fault is = (absurd (cc))
 the_fault (Err e) fault is = (cc)
 
-table_of_no_form : (bits : ℕ) (told : Told) (name text : List ℕ) (fault : MtxFault) (next : Matrix → Outcome)
+table_of_no_form : (bits budget : ℕ) (told : Told) (name text : List ℕ) (fault : MtxFault) (next : Matrix → Outcome)
     → fin.get told name ≡ Some text → first_bad_line bits table_limit text ≡ Some fault
-    → with_table bits told name next ≡ record (refused (table_refusal name fault)) { needed = name ∷ [] }
-table_of_no_form bits told name text fault next there bad =
+    → with_table bits budget told name next ≡ record (refused (table_refusal name fault)) { needed = name ∷ [] }
+table_of_no_form bits budget told name text fault next there bad =
     rw (there, the_fault (matrix_in bits table_limit text) fault bad) refl
 
 -- why a table isn't read, as it is told
-pub table_unread : {T : Type 0} (then : T → Outcome) (bits : ℕ) (told : Told) (name : List ℕ) (next : Matrix → Outcome)
-    (u : Unread MtxFault) (r : Unfinished) → ReadsTable bits (Some told) name (Err u) → TellsUnread (table_refusal name) name u r
-    → Lets then (with_table bits told name next) (Err r)
-table_unread then bits told name next u unfinished.Memory h t = tt
-table_unread then bits told name next unread.Missing (unfinished.Refused status line) h t =
-    refused_as _ (missing_refusal name) (name ∷ []) status line (table_missing bits told name next h) t.0 t.1
-table_unread then bits told name next (unread.Refused fault) (unfinished.Refused status line) h t =
-    refused_as _ (table_refusal name fault) (name ∷ []) status line (table_of_no_form bits told name h.0 fault next h.1 h.2) t.0 t.1
-table_unread then bits told name next unread.Fault (unfinished.Unread line) h t = (name, needed_first name _, t)
-table_unread then bits told name next u r h t = absurd t
+pub table_unread : {T : Type 0} (then : T → Outcome) (bits budget : ℕ) (told : Told) (name : List ℕ) (next : Matrix →
+    Outcome)
+    (u : Unread MtxFault) (r : Unfinished) → ReadsTable bits (Some told) name (Err u) →
+    TellsUnread (table_refusal name) name u r
+    → Lets then (with_table bits budget told name next) (Err r)
+table_unread then bits budget told name next u unfinished.Memory h t = tt
+table_unread then bits budget told name next unread.Missing (unfinished.Refused status line) h t =
+    refused_as _ (missing_refusal name) (name ∷ []) status line (table_missing bits budget told name next h) t.0 t.1
+table_unread then bits budget told name next (unread.Refused fault) (unfinished.Refused status line) h t =
+    refused_as _ (table_refusal name fault) (name ∷ []) status line
+    (table_of_no_form bits budget told name h.0 fault next h.1 h.2) t.0 t.1
+table_unread then bits budget told name next unread.Fault (unfinished.Unread line) h t = (name, needed_first name _, t)
+table_unread then bits budget told name next u r h t = absurd t
 
 -- the file that is being read is one that is needed
-needed_in : (needed : List (List ℕ)) (name : List ℕ) (reading : Option Reading) → Contains needed name → ReadsNoOther name reading
+needed_in : (needed : List (List ℕ)) (name : List ℕ) (reading : Option Reading) → Contains needed name →
+    ReadsNoOther name reading
     → IsNeeded needed reading
 needed_in needed name None has h = tt
 needed_in needed name (Some r) has h = rw h has
 
-pub script_needed : (bits : ℕ) (told : Told) (name : List ℕ) (reading : Option Reading) → ReadsNoOther name reading
-    → IsNeeded (script_outcome bits told name).needed reading
-script_needed bits told name reading h = needed_in (script_outcome bits told name).needed name reading (0, omega arith, refl) h
+pub script_needed : (bits budget : ℕ) (told : Told) (name : List ℕ) (reading : Option Reading) →
+    ReadsNoOther name reading
+    → IsNeeded (script_outcome bits budget told name).needed reading
+script_needed bits budget told name reading h = needed_in (script_outcome bits budget told name).needed name reading
+    (0, omega arith, refl) h
+
+pub table_needed : (bits budget : ℕ) (told : Told) (name : List ℕ) (next : Matrix → Outcome) (reading : Option Reading)
+    → ReadsNoOther name reading → IsNeeded (with_table bits budget told name next).needed reading
+table_needed bits budget told name next reading h =
+    needed_in (with_table bits budget told name next).needed name reading (0, omega arith, refl) h
 
 -- and so is one that the tables need, or the one before them
-pub tables_needed : (bits : ℕ) (told : Told) (name : List ℕ) (o : Outcome) (old reading : Option Reading) → ReadsNoOther name old
-    → Reaches (script_outcome bits told name) o → ReadsOnly o.needed old reading → IsNeeded (script_outcome bits told name).needed reading
-tables_needed bits told name o old None h on only = tt
-tables_needed bits told name o old (Some r) h on (inl same) = subst (IsNeeded (script_outcome bits told name).needed) same
-    (script_needed bits told name old h)
-tables_needed bits told name o old (Some r) h on (inr has) = on.needed r.name has
+pub tables_needed : (bits budget : ℕ) (told : Told) (name : List ℕ) (o : Outcome) (old reading : Option Reading) →
+    ReadsNoOther name old
+    → Reaches (script_outcome bits budget told name) o → ReadsOnly o.needed old reading →
+    IsNeeded (script_outcome bits budget told name).needed reading
+tables_needed bits budget told name o old None h on only = tt
+tables_needed bits budget told name o old (Some r) h on (inl same) =
+    subst (IsNeeded (script_outcome bits budget told name).needed) same
+    (script_needed bits budget told name old h)
+tables_needed bits budget told name o old (Some r) h on (inr has) = on.needed r.name has
 
 -- some tables were read, and the rest of them decide
-abbrev pub ReachesRest : ℕ → Told → List (List ℕ) → List (List ℕ) → List Matrix → (List Matrix → Outcome) → Type 0
-ReachesRest bits told all rest done next = (then : List Matrix → Outcome) × ((ms : List Matrix) → then ms ≡ next (done ++ ms))
-    × Reaches (with_tables bits told all next) (with_tables bits told rest then)
+abbrev pub ReachesRest : ℕ → ℕ → Told → List (List ℕ) → List (List ℕ) → List Matrix → (List Matrix → Outcome) → Type 0
+ReachesRest bits budget told all rest done next = (then : List Matrix → Outcome)
+    × ((ms : List Matrix) → then ms ≡ next (done ++ ms))
+    × Reaches (with_tables bits budget told all next) (with_tables bits budget told rest then)
 
-pub none_read : (bits : ℕ) (told : Told) (all : List (List ℕ)) (next : List Matrix → Outcome) → ReachesRest bits told all all [] next
-none_read bits told all next = (next, (λ ms. refl), reaches_itself _)
+pub none_read : (bits budget : ℕ) (told : Told) (all : List (List ℕ)) (next : List Matrix → Outcome) →
+    ReachesRest bits budget told all all [] next
+none_read bits budget told all next = (next, (λ ms. refl), reaches_itself _)
 
-pub one_read : (bits : ℕ) (told : Told) (all : List (List ℕ)) (name : List ℕ) (rest : List (List ℕ)) (done : List Matrix) (m : Matrix)
-    (next : List Matrix → Outcome) → ReachesRest bits told all (name ∷ rest) done next
-    → ((after : Matrix → Outcome) → Reaches (with_table bits told name after) (after m))
-    → ReachesRest bits told all rest (done ++ m ∷ []) next
-one_read bits told all name rest done m next so_far read = (
+pub one_read : (bits budget : ℕ) (told : Told) (all : List (List ℕ)) (name : List ℕ) (rest : List (List ℕ))
+    (done : List Matrix) (m : Matrix)
+    (next : List Matrix → Outcome) → ReachesRest bits budget told all (name ∷ rest) done next
+    → ((after : Matrix → Outcome) → Reaches (with_table bits budget told name after) (after m))
+    → ReachesRest bits budget told all rest (done ++ m ∷ []) next
+one_read bits budget told all name rest done m next so_far read = (
   λ ms. so_far.0 (m ∷ ms),
   λ ms. so_far.1 (m ∷ ms) ∙ ap next (sym (append_assoc done (m ∷ []) ms)),
-  reaches_on _ _ _ so_far.2 (read (λ x. with_tables bits told rest (λ ms. so_far.0 (x ∷ ms)))),
+  reaches_on _ _ _ so_far.2 (read (λ x. with_tables bits budget told rest (λ ms. so_far.0 (x ∷ ms)))),
 )
 
-pub all_read : (bits : ℕ) (told : Told) (all : List (List ℕ)) (done : List Matrix) (next : List Matrix → Outcome)
-    → ReachesRest bits told all [] done next → Reaches (with_tables bits told all next) (next done)
-all_read bits told all done next so_far =
-    subst (λ (o : Outcome). Reaches (with_tables bits told all next) o)
+pub all_read : (bits budget : ℕ) (told : Told) (all : List (List ℕ)) (done : List Matrix) (next : List Matrix → Outcome)
+    → ReachesRest bits budget told all [] done next → Reaches (with_tables bits budget told all next) (next done)
+all_read bits budget told all done next so_far =
+    subst (λ (o : Outcome). Reaches (with_tables bits budget told all next) o)
     (so_far.1 [] ∙ ap next (append-nil done)) so_far.2
 
-pub one_unread : {U : Type 0} (then : U → Outcome) (bits : ℕ) (told : Told) (all : List (List ℕ)) (name : List ℕ) (rest : List (List ℕ))
-    (done : List Matrix) (next : List Matrix → Outcome) (e : Unfinished) → ReachesRest bits told all (name ∷ rest) done next
-    → ((after : Matrix → Outcome) → Lets after (with_table bits told name after) (Err e))
-    → Lets then (with_tables bits told all next) (Err e)
-one_unread then bits told all name rest done next e so_far read =
-    let after : Matrix → Outcome = λ x. with_tables bits told rest (λ ms. so_far.0 (x ∷ ms)) in
-    lets_error after then (with_tables bits told all next) e
-    (lets_reached after (with_tables bits told all next) (with_table bits told name after) (Err e) so_far.2 (read after))
+pub one_unread : {U : Type 0} (then : U → Outcome) (bits budget : ℕ) (told : Told) (all : List (List ℕ)) (name : List ℕ)
+    (rest : List (List ℕ))
+    (done : List Matrix) (next : List Matrix → Outcome) (e : Unfinished) →
+    ReachesRest bits budget told all (name ∷ rest) done next
+    → ((after : Matrix → Outcome) → Lets after (with_table bits budget told name after) (Err e))
+    → Lets then (with_tables bits budget told all next) (Err e)
+one_unread then bits budget told all name rest done next e so_far read =
+    let after : Matrix → Outcome = λ x. with_tables bits budget told rest (λ ms. so_far.0 (x ∷ ms)) in
+    lets_error after then (with_tables bits budget told all next) e
+    (lets_reached after (with_tables bits budget told all next) (with_table bits budget told name after) (Err e)
+    so_far.2 (read after))
 
-pub one_needed : (bits : ℕ) (told : Told) (all : List (List ℕ)) (name : List ℕ) (rest : List (List ℕ)) (done : List Matrix)
-    (next : List Matrix → Outcome) (old reading : Option Reading) → ReachesRest bits told all (name ∷ rest) done next
-    → ReadsNoOther name reading → ReadsOnly (with_tables bits told all next).needed old reading
-one_needed bits told all name rest done next old None so_far h = tt
-one_needed bits told all name rest done next old (Some r) so_far h = inr (rw h (so_far.2.needed name (needed_first name _)))
+pub one_needed : (bits budget : ℕ) (told : Told) (all : List (List ℕ)) (name : List ℕ) (rest : List (List ℕ))
+    (done : List Matrix)
+    (next : List Matrix → Outcome) (old reading : Option Reading) →
+    ReachesRest bits budget told all (name ∷ rest) done next
+    → ReadsNoOther name reading → ReadsOnly (with_tables bits budget told all next).needed old reading
+one_needed bits budget told all name rest done next old None so_far h = tt
+one_needed bits budget told all name rest done next old (Some r) so_far h =
+    inr (rw h (so_far.2.needed name (needed_first name _)))

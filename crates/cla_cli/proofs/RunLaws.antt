@@ -15,7 +15,7 @@ use Rattle.cla_grammar.specs.Tree.{Named, Statement, ReadOf}
 use Rattle.cla_print.specs.Texts.{Value, Table, printed}
 use Rattle.cla_cli.specs.declared.statements.Halted.{Halted}
 use Rattle.cla_cli.specs.declared.statements.Halted.TheVariants.{Operator, Unwritten, Memory}
-use Rattle.cla_cli.specs.Statements.{Assigned, Trace, Valued, matrix_of, value_of, nothing_done, then_prints, both_counts, with_name, trace_of, script_work}
+use Rattle.cla_cli.specs.Statements.{Assigned, Trace, Valued, matrix_of, value_of, nothing_done, printing, then_prints, both_counts, with_name, trace_of, script_work}
 use Rattle.cla_cli.specs.Evaluate.{CountsTo, FewMore}
 use Rattle.cla_cli.specs.Run.{RiseBy, RiseByAtMost}
 use Rattle.cla_cli.specs.Runs.{world_of, Runs, GoesOn, HasHaltCause, halted_by}
@@ -30,12 +30,15 @@ pub nothing_left : (told : Told) (out : Option (List ℕ)) → Runs {U = Unit {0
 nothing_left told out = (refl, refl)
 
 -- want of memory before an effect
-pub no_memory : (told : Told) (trace : Trace) (out : Option (List ℕ)) → Runs {U = Unit {0}} told trace out out (Err Memory)
+pub no_memory : (told : Told) (trace : Trace) (out : Option (List ℕ)) →
+    Runs {U = Unit {0}} told trace out out (Err Memory)
 no_memory told trace out = front_nothing trace.effects (world_of told out)
 
 -- an operator that fails
-pub operator_fails : (told : Told) (value : Option Valued) (rest : Trace) (out : Option (List ℕ)) (place : Place) (fault : OpFault)
-    → value ≡ Some (Err (place, fault)) → Runs {U = Unit {0}} told (then_prints value rest) out out (Err (Operator place fault))
+pub operator_fails : (told : Told) (value : Option Valued) (rest : Trace) (out : Option (List ℕ)) (place : Place)
+    (fault : OpFault)
+    → value ≡ Some (Err (place, fault)) →
+    Runs {U = Unit {0}} told (then_prints value rest) out out (Err (Operator place fault))
 operator_fails told value rest out place fault is = rw is (refl, refl)
 
 -- nothing to print
@@ -44,8 +47,10 @@ pub nothing_printed : (told : Told) (value : Option Valued) (rest : Trace) (out 
 nothing_printed told value rest out is = rw is (λ end result runs. runs)
 
 -- a text that was printed before the rest
-after_text : (told : Told) (rest : Trace) (text : List ℕ) (out end : Option (List ℕ)) (result : Result (Unit {0}) Halted)
-    → Runs told rest (grown out text) end result → Runs told (record rest { effects = Out text ∷ rest.effects }) out end result
+after_text : (told : Told) (rest : Trace) (text : List ℕ) (out end : Option (List ℕ))
+    (result : Result (Unit {0}) Halted)
+    → Runs told rest (grown out text) end result → Runs told (record rest { effects = Out text ∷ rest.effects }) out end
+    result
 after_text told rest text out end (Ok u) runs = runs
 after_text told rest text out end (Err (Operator place fault)) runs = runs
 after_text told rest text out end (Err Unwritten) runs = (runs.0, inr runs.1)
@@ -67,10 +72,23 @@ prints_on told rest text out out' (Err stop.Failed) puts =
 prints_on told rest text out out' (Err stop.Memory) puts =
     inr (inl (puts.0, ap (world_of told) (grows_is out out' (take puts.0 text) puts.1)))
 
+-- a text that is all that a command prints
+pub text_runs : (told : Told) (text : List ℕ) (out out' : Option (List ℕ)) (answer : Result (Unit {0}) Stop)
+    (result : Result (Unit {0}) Halted) → result ≡ halted_by answer → PutsAll text out out' answer
+    → Runs told (printing text) out out' result
+text_runs told text out out' (Ok u) result ends puts = rw ends
+    (prints_on told nothing_done text out out' (Ok u) puts out' (Ok tt) (nothing_left told out'))
+text_runs told text out out' (Err stop.Failed) result ends puts =
+    rw ends (prints_on told nothing_done text out out' (Err stop.Failed) puts)
+text_runs told text out out' (Err stop.Memory) result ends puts =
+    rw ends (prints_on told nothing_done text out out' (Err stop.Memory) puts)
+
 pub value_printed : (told : Told) (value : Option Valued) (rest : Trace) (v : Value) (out out' : Option (List ℕ))
-    (answer : Result (Unit {0}) Stop) (result : Result (Unit {0}) Halted) → value ≡ Some (Ok v) → result ≡ halted_by answer
+    (answer : Result (Unit {0}) Stop) (result : Result (Unit {0}) Halted) → value ≡ Some (Ok v) →
+    result ≡ halted_by answer
     → PutsAll (printed v) out out' answer → GoesOn told (then_prints value rest) rest out out' result
-value_printed told value rest v out out' answer result is ends puts = rw (is, ends) (prints_on told rest (printed v) out out' answer puts)
+value_printed told value rest v out out' answer result is ends puts =
+    rw (is, ends) (prints_on told rest (printed v) out out' answer puts)
 
 -- the value of a name that has a table
 pub table_value : (bits : ℕ) (names : Assigned) (place : Place) (name : List ℕ) (table : Matrix)
@@ -84,7 +102,8 @@ halt_cause before after (Err stop.Failed) result ends cause = rw ends cause
 halt_cause before after (Err stop.Memory) result ends cause = rw ends cause
 
 -- counts of a statement, and of those that follow it
-pub counted : {U V : Type 0} (work before now : Counts) (result : Result U V) → RiseBy work before now → CountsTo work before now result
+pub counted : {U V : Type 0} (work before now : Counts) (result : Result U V) → RiseBy work before now →
+    CountsTo work before now result
 counted work before now (Ok u) rise = rise
 counted work before now (Err e) rise = record {
   not_below = record { mults = omega (arith, rise.0); maps = omega (arith, rise.1) };
@@ -99,12 +118,17 @@ pub counted_on : {U : Type 0} (first rest before mid now : Counts) (result : Res
     → CountsTo rest mid now result → CountsTo (both_counts first rest) before now result
 counted_on first rest before mid now (Ok u) one more = (omega (arith, one.0, more.0), omega (arith, one.1, more.1))
 counted_on first rest before mid now (Err e) one more = record {
-  not_below = record { mults = omega (arith, one.0, more.not_below.mults); maps = omega (arith, one.1, more.not_below.maps) };
+  not_below = record {
+    mults = omega (arith, one.0, more.not_below.mults);
+    maps =
+        omega (arith, one.1, more.not_below.maps);
+  };
   mults = omega (arith, one.0, more.mults);
   maps = omega (arith, one.1, more.maps);
 }
 
-pub counted_last : (first rest before now : Counts) → RiseByAtMost first before now → RiseByAtMost (both_counts first rest) before now
+pub counted_last : (first rest before now : Counts) → RiseByAtMost first before now →
+    RiseByAtMost (both_counts first rest) before now
 counted_last first rest before now rise = record {
   not_below = rise.not_below;
   mults = omega (arith, rise.mults);
@@ -129,7 +153,8 @@ few_more i most before mid now few more = rw (few_steps i most)
     (record { mults = omega (arith, few.mults, more.mults); maps = omega (arith, few.maps, more.maps) })
 
 -- what is left at a statement
-pub left_at : {X : Type 0} (xs : List X) (i : ℕ) (x y : X) → i < length xs → x ≡ get_or xs i x → x ≡ y → drop i xs ≡ y ∷ drop (i + 1) xs
+pub left_at : {X : Type 0} (xs : List X) (i : ℕ) (x y : X) → i < length xs → x ≡ get_or xs i x → x ≡ y →
+    drop i xs ≡ y ∷ drop (i + 1) xs
 left_at xs i x y below is same = drop_more xs i x below ∙ ap (λ z. z ∷ drop (i + 1) xs) (sym is ∙ same)
 
 -- a read where no table is left, and one of the next table
@@ -141,7 +166,8 @@ pub none_worked : (names : Assigned) (n f : List ℕ) (xs : List Statement) (tab
     → tables ≡ [] → script_work names (ReadOf n f ∷ xs) tables ≡ script_work names xs tables
 none_worked names n f xs tables is = rw is refl
 
-pub one_traced : (bits : ℕ) (names names' : Assigned) (n f : List ℕ) (xs : List Statement) (m : Matrix) (tables rest : List Matrix)
+pub one_traced : (bits : ℕ) (names names' : Assigned) (n f : List ℕ) (xs : List Statement) (m : Matrix)
+    (tables rest : List Matrix)
     → names' ≡ with_name names n m → tables ≡ m ∷ rest
     → trace_of bits names (ReadOf n f ∷ xs) tables ≡ trace_of bits names' xs rest
 one_traced bits names names' n f xs m tables rest named is = rw (named, is) refl

@@ -19,14 +19,16 @@ use Rattle.cla_cli.specs.Outcome.{Refusal, refusal_at, place_at, shape_of_table,
 use Rattle.cla_cli.specs.Parts.{RefusesAt, TellsFault, Passes}
 
 -- a check that refuses a script at a place
-pub refuses : {T X : Type 0} (view : T → X) (checked : Result X Refusal) (place : Place) (kind : BadKind) (told : Unfinished)
+pub refuses : {T X : Type 0} (view : T → X) (checked : Result X Refusal) (place : Place) (kind : BadKind)
+    (told : Unfinished)
     → checked ≡ Err (refusal_at place kind) → RefusesAt place kind told → Passes view checked (Err told)
 refuses view checked place kind (unfinished.Refused status line) is tells = (place, (kind, tells.0, tells.1, is))
 refuses view checked place kind unfinished.Memory is tells = tt
 refuses view checked place kind told is tells = absurd tells
 
 -- a text that is no script
-pub parse_refused : {N T : Type 0} (value : N → ℤ) (view : T → List Statement) (bits : ℕ) (text : List ℕ) (fault : ScriptFault)
+pub parse_refused : {N T : Type 0} (value : N → ℤ) (view : T → List Statement) (bits : ℕ) (text : List ℕ)
+    (fault : ScriptFault)
     (told : Unfinished) → Gives value (Err fault) (script_in bits text) → TellsFault fault told
     → Passes view (checked_script bits text) (Err told)
 parse_refused value view bits text (script.At place kind) told gives tells =
@@ -34,7 +36,8 @@ parse_refused value view bits text (script.At place kind) told gives tells =
 parse_refused value view bits text script.Memory told gives tells = rw tells tt
 
 -- a script that writes a file that it reads
-pub clash_refused : {T : Type 0} (view : T → List Statement) (bits : ℕ) (text : List ℕ) (xs : List Statement) (fault : ScriptFault)
+pub clash_refused : {T : Type 0} (view : T → List Statement) (bits : ℕ) (text : List ℕ) (xs : List Statement)
+    (fault : ScriptFault)
     (told : Unfinished) → script_in bits text ≡ Ok xs → Clashes (Err fault) (first_clash xs) → TellsFault fault told
     → Passes view (checked_script bits text) (Err told)
 clash_refused view bits text xs (script.At place kind) told is clashes tells =
@@ -46,7 +49,8 @@ pub script_good : (bits : ℕ) (text : List ℕ) (xs : List Statement) → scrip
 script_good bits text xs is none = rw (is, none) refl
 
 -- shapes that don't fit, and statements that don't run today
-pub shape_refused : {T : Type 0} (view : T → Unit {0}) (xs : List Statement) (ms : List Matrix) (place : Place) (kind : ShapeKind)
+pub shape_refused : {T : Type 0} (view : T → Unit {0}) (xs : List Statement) (ms : List Matrix) (place : Place)
+    (kind : ShapeKind)
     (told : Unfinished) → first_shape_fault xs (map shape_of_table ms) ≡ Some (record { place = place; kind = kind })
     → RefusesAt place (bad.Shape kind) told → Passes view (checked_statements xs ms) (Err told)
 shape_refused view xs ms place kind told is tells =

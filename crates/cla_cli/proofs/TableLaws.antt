@@ -67,7 +67,8 @@ matrix_is : (flipped : Bool) (layout : Layout) (m : Matrix) (e : ℕ → ℕ →
     → ((i j : ℕ) → i < m.rows → j < m.cols → entry_as flipped layout i j ≡ e i j) → matrix_as flipped layout ≡ m
 matrix_is false layout m e a_row a_col rows cols cells same =
     let all : row_by_row layout.rows layout.cols (entry_in layout.parts) ≡ m.cells =
-    rw (rows, cols) (row_by_row-same m.rows m.cols (entry_in layout.parts) e (pos 0) (rw cols at a_col) same ∙ sym cells) in
+    rw (rows, cols) (row_by_row-same m.rows m.cols (entry_in layout.parts) e (pos 0) (rw cols at a_col) same
+    ∙ sym cells) in
     rw (all, rows, cols) refl
 matrix_is true layout m e a_row a_col rows cols cells same =
     let all : row_by_row layout.cols layout.rows (λ i j. entry (matrix_in layout) j i) ≡ m.cells =
@@ -80,7 +81,8 @@ matrix_is true layout m e a_row a_col rows cols cells same =
 pub sum_is : (flipped : Bool) (layout : Layout) (m : Matrix) → matrix_as flipped layout ≡ m
     → sum_of_entries (rows_as flipped layout) (cols_as flipped layout) (entry_as flipped layout) ≡ exact_sum m
 sum_is flipped layout m is =
-    let shows = subst (Shows (rows_as flipped layout) (cols_as flipped layout) (entry_as flipped layout)) is (shows_as flipped layout) in
+    let shows = subst (Shows (rows_as flipped layout) (cols_as flipped layout) (entry_as flipped layout)) is
+    (shows_as flipped layout) in
     rw (shows.rows, shows.cols) (sum_of_entries-same m.rows m.cols (entry_as flipped layout) (entry m) shows.entries)
 
 zero_or : (later : Option OpFault) (what : Option What) (cols place : ℕ) → at_step 0 later None ≡ later
@@ -93,17 +95,22 @@ step_zero : (bits cols place : ℕ) (cells : List (Option ℤ)) →
     at_step 0 (first_fault_from bits cols place cells) None ≡ first_fault_from bits cols place cells
 step_zero bits cols place [] = refl
 step_zero bits cols place (cell ∷ cells) =
-    zero_or (first_fault_from bits cols (place + 1) cells) (cell_fault bits cell) cols place (step_zero bits cols (place + 1) cells)
+    zero_or (first_fault_from bits cols (place + 1) cells) (cell_fault bits cell) cols place
+    (step_zero bits cols (place + 1) cells)
 
 -- the fault of its product is that of the matrix
 pub fault_is : (bits : ℕ) (flipped : Bool) (layout : Layout) (m : Matrix) (k : ℤ) → 1 ≤ cols_as flipped layout
     → matrix_as flipped layout ≡ m
-    → at_step 0 (fault_of bits (rows_as flipped layout) (cols_as flipped layout) (exactly (scaled_entry (entry_as flipped layout) k))) None
+    → at_step 0 (fault_of bits (rows_as flipped layout) (cols_as flipped layout)
+    (exactly (scaled_entry (entry_as flipped layout) k))) None
     ≡ product_fault bits m k
 fault_is bits flipped layout m k some is =
-    let shows = subst (Shows (rows_as flipped layout) (cols_as flipped layout) (entry_as flipped layout)) is (shows_as flipped layout) in
-    step_zero bits (cols_as flipped layout) 0 (row_by_row (rows_as flipped layout) (cols_as flipped layout) (exactly (scaled_entry (entry_as flipped layout) k)))
-    ∙ rw (shows.rows, shows.cols) (fault_of-same bits m.rows m.cols (scaled_entry (entry_as flipped layout) k) (scaled_entry (entry m) k)
+    let shows = subst (Shows (rows_as flipped layout) (cols_as flipped layout) (entry_as flipped layout)) is
+    (shows_as flipped layout) in
+    step_zero bits (cols_as flipped layout) 0 (row_by_row (rows_as flipped layout) (cols_as flipped layout)
+    (exactly (scaled_entry (entry_as flipped layout) k)))
+    ∙ rw (shows.rows, shows.cols) (fault_of-same bits m.rows m.cols (scaled_entry (entry_as flipped layout) k)
+    (scaled_entry (entry m) k)
     (rw shows.cols at some) (λ i j row col. ap (λ (v : ℤ). v *ℤ k) (shows.entries i j row col)))
 
 as_rows : (flipped : Bool) (new layout : Layout) → new.rows ≡ layout.rows → new.cols ≡ layout.cols
@@ -122,16 +129,21 @@ pub product_is : (flipped : Bool) (layout : Layout) (m : Matrix) (k : ℤ) (new 
     → ((i j : ℕ) → i < rows_as flipped layout → j < cols_as flipped layout
     → entry_as flipped new i j ≡ entry_as flipped layout i j *ℤ k) → matrix_as flipped new ≡ scaled m k
 product_is flipped layout m k new a_row a_col is rows cols same =
-    let shows = subst (Shows (rows_as flipped layout) (cols_as flipped layout) (entry_as flipped layout)) is (shows_as flipped layout) in
+    let shows = subst (Shows (rows_as flipped layout) (cols_as flipped layout) (entry_as flipped layout)) is
+    (shows_as flipped layout) in
     matrix_is flipped new (scaled m k) (scaled_entry (entry m) k) a_row a_col
     (as_rows flipped new layout rows cols ∙ shows.rows) (as_cols flipped new layout rows cols ∙ shows.cols) refl
-    (λ i j row col. same i j (rw shows.rows row) (rw shows.cols col) ∙ ap (λ (v : ℤ). v *ℤ k) (shows.entries i j row col))
+    (λ i j row col. same i j (rw shows.rows row) (rw shows.cols col)
+    ∙ ap (λ (v : ℤ). v *ℤ k) (shows.entries i j row col))
 
 -- the shape of a group is within the limits of a matrix
-pub limits_of : (rows cols : ℕ) → 1 ≤ rows → 1 ≤ cols → rows * cols ≤ most_cells → IsInLimits (record { rows = rows; cols = cols })
+pub limits_of : (rows cols : ℕ) → 1 ≤ rows → 1 ≤ cols → rows * cols ≤ most_cells →
+    IsInLimits (record { rows = rows; cols = cols })
 limits_of rows cols a_row a_col few =
-    let by_rows : rows * 1 ≤ rows * cols = mul-le-mul {n₁ = rows} {m₁ = 1} {n₂ = rows} {m₂ = cols} (omega arith) a_col in
-    let by_cols : 1 * cols ≤ rows * cols = mul-le-mul {n₁ = 1} {m₁ = cols} {n₂ = rows} {m₂ = cols} a_row (omega arith) in
+    let by_rows : rows * 1 ≤ rows * cols = mul-le-mul {n₁ = rows} {m₁ = 1} {n₂ = rows} {m₂ = cols} (omega arith) a_col
+    in
+    let by_cols : 1 * cols ≤ rows * cols = mul-le-mul {n₁ = 1} {m₁ = cols} {n₂ = rows} {m₂ = cols} a_row (omega arith)
+    in
     record {
       rows = (a_row, omega (arith, by_rows, few));
       cols = (a_col, omega (arith, by_cols, few));
@@ -168,8 +180,10 @@ no_skeleton : PartSkeletonOf
 no_skeleton = record { columns = []; codes = [] }
 
 one_of : {G : Type 0} (codes : G → List ℕ) (parts : List (Part G)) (rows cols : ℕ)
-    → map (part_skeleton_of codes) parts ≡ record { columns = range_with_len 0 cols; codes = range_with_len 0 rows } ∷ []
-    → (part : Part G) × (parts ≡ part ∷ []) × (part.columns.items ≡ range_with_len 0 cols) × (codes part.group ≡ range_with_len 0 rows)
+    → map (part_skeleton_of codes) parts ≡ record { columns = range_with_len 0 cols; codes = range_with_len 0 rows }
+    ∷ []
+    → (part : Part G) × (parts ≡ part ∷ []) × (part.columns.items ≡ range_with_len 0 cols)
+    × (codes part.group ≡ range_with_len 0 rows)
 one_of codes [] rows cols is = cc
 one_of codes (part ∷ []) rows cols is = (
   part,
@@ -209,7 +223,8 @@ values_are bits codes dictionary t loose whole =
     subst (λ (ps : List (Part _)). IsPart bits t.rows (part_at (parts_of codes dictionary ps) 0)) one.only
     (whole.each 0 (rw one.only (omega arith))) in
     let tuples : length (dictionary one.part.group) ≡ t.rows = as_many bits _ t.rows _ _ is.group one.codes_are in
-    let columns : length one.part.columns.items ≡ t.cols = ap (λ (cs : List ℕ). length cs) one.columns_are ∙ rows_count t.cols in
+    let columns : length one.part.columns.items ≡ t.cols = ap (λ (cs : List ℕ). length cs) one.columns_are
+    ∙ rows_count t.cols in
     rw (one.only, tuples, columns) (omega arith)
 
 -- the entries of one part of all columns, in their order
@@ -235,7 +250,8 @@ one_stands bits width codes dictionary t loose whole one law =
     (whole.each 0 (rw one.only (omega arith))) in
     let rows : rows_as t.flipped layout ≡ t.rows = rw flat refl in
     let cols : cols_as t.flipped layout ≡ t.cols = rw flat refl in
-    let columns : length one.part.columns.items ≡ t.cols = ap (λ (cs : List ℕ). length cs) one.columns_are ∙ rows_count t.cols in
+    let columns : length one.part.columns.items ≡ t.cols = ap (λ (cs : List ℕ). length cs) one.columns_are
+    ∙ rows_count t.cols in
     record {
       rows = ap (λ (cs : List ℕ). length cs) one.codes_are ∙ rows_count t.rows ∙ sym rows ∙ shows.rows;
       cols = same_width bits width _ _ _ law is.group ∙ columns ∙ sym cols ∙ shows.cols;
@@ -247,18 +263,21 @@ one_stands bits width codes dictionary t loose whole one law =
     }
 
 -- and its text is that of the matrix
-pub text_is : {G : Type 0} (bits width : ℕ) (codes : G → List ℕ) (dictionary : G → List (List ℤ)) (t : TableOf G) (g : G)
+pub text_is : {G : Type 0} (bits width : ℕ) (codes : G → List ℕ) (dictionary : G → List (List ℤ)) (t : TableOf G)
+    (g : G)
     → IsLoose (skeleton_of codes t) → IsWhole bits (layout_of codes dictionary t)
     → (one : OnePart codes t) → one.part.group ≡ g → IsGroup bits width (codes g) (dictionary g)
     → rows_text (length (codes g)) width (cell_of (codes g) (dictionary g)) ≡ matrix_text (matrix_of codes dictionary t)
 text_is bits width codes dictionary t g loose whole one same law =
     let own = subst (λ (x : _). IsGroup bits width (codes x) (dictionary x)) (sym same) law in
-    subst (λ (x : _). rows_text (length (codes x)) width (cell_of (codes x) (dictionary x)) ≡ matrix_text (matrix_of codes dictionary t)) same
+    subst (λ (x : _). rows_text (length (codes x)) width (cell_of (codes x) (dictionary x))
+    ≡ matrix_text (matrix_of codes dictionary t)) same
     (group_text width (codes one.part.group) (dictionary one.part.group) (matrix_of codes dictionary t)
     (one_stands bits width codes dictionary t loose whole one own))
 
 -- the values of a loose table are as many as the cells of its matrix
-pub cells_are : {G : Type 0} (bits : ℕ) (codes : G → List ℕ) (dictionary : G → List (List ℤ)) (t : TableOf G) (m : Matrix)
+pub cells_are : {G : Type 0} (bits : ℕ) (codes : G → List ℕ) (dictionary : G → List (List ℤ)) (t : TableOf G)
+    (m : Matrix)
     → IsLoose (skeleton_of codes t) → IsWhole bits (layout_of codes dictionary t) → matrix_of codes dictionary t ≡ m
     → values_of (parts_of codes dictionary t.parts) ≡ m.rows * m.cols
 cells_are bits codes dictionary t m loose whole is =
@@ -271,8 +290,10 @@ pub cells_few : {G : Type 0} (bits : ℕ) (codes : G → List ℕ) (dictionary :
     → values_of (parts_of codes dictionary t.parts) ≤ most_cells
 cells_few bits codes dictionary t loose whole = rw (values_are bits codes dictionary t loose whole) whole.few
 
-pub few_maps : (n : ℕ) (before now : Counts) → n ≤ most_cells → HasMapsUpTo n before now → FewMore operator_most before now
-few_maps n before now few counts = record { mults = omega (arith, counts.mults); maps = omega (arith, counts.most, few) }
+pub few_maps : (n : ℕ) (before now : Counts) → n ≤ most_cells → HasMapsUpTo n before now →
+    FewMore operator_most before now
+few_maps n before now few counts =
+    record { mults = omega (arith, counts.mults); maps = omega (arith, counts.most, few) }
 
 -- the step that multiplies by an integer
 abbrev pub times : ℤ → StepValue
@@ -283,17 +304,21 @@ a_col_as true layout a_row a_col = a_row
 a_col_as false layout a_row a_col = a_col
 
 -- what the chain of this step says of the matrix: its fault
-pub chain_fault_is : {G : Type 0} (bits : ℕ) (codes : G → List ℕ) (dictionary : G → List (List ℤ)) (t : TableOf G) (m : Matrix) (k : ℤ)
+pub chain_fault_is : {G : Type 0} (bits : ℕ) (codes : G → List ℕ) (dictionary : G → List (List ℤ)) (t : TableOf G)
+    (m : Matrix) (k : ℤ)
     → IsWhole bits (layout_of codes dictionary t) → matrix_of codes dictionary t ≡ m
-    → chain_fault bits (rows_of_table t) (cols_of_table t) (times k ∷ []) (table_entry codes dictionary t) ≡ product_fault bits m k
+    → chain_fault bits (rows_of_table t) (cols_of_table t) (times k ∷ []) (table_entry codes dictionary t)
+    ≡ product_fault bits m k
 chain_fault_is bits codes dictionary t m k whole is =
     let layout = layout_of codes dictionary t in
     fault_is bits t.flipped layout m k (a_col_as t.flipped layout whole.a_row whole.a_col) is
 
 -- and its product
-pub chained_is : {G : Type 0} (bits : ℕ) (codes : G → List ℕ) (dictionary : G → List (List ℤ)) (t new : TableOf G) (m : Matrix) (k : ℤ)
+pub chained_is : {G : Type 0} (bits : ℕ) (codes : G → List ℕ) (dictionary : G → List (List ℤ)) (t new : TableOf G)
+    (m : Matrix) (k : ℤ)
     → IsWhole bits (layout_of codes dictionary t) → matrix_of codes dictionary t ≡ m
-    → IsMappedTo codes dictionary (scaled_entry (table_entry codes dictionary t) k) t new → matrix_of codes dictionary new ≡ scaled m k
+    → IsMappedTo codes dictionary (scaled_entry (table_entry codes dictionary t) k) t new →
+    matrix_of codes dictionary new ≡ scaled m k
 chained_is bits codes dictionary t new m k whole is chained =
     let flips : new.flipped ≡ t.flipped = ap (λ (s : SkeletonOf). s.flipped) chained.skeleton in
     let rows : new.rows ≡ t.rows = ap (λ (s : SkeletonOf). s.rows) chained.skeleton in
@@ -306,24 +331,30 @@ chained_is bits codes dictionary t new m k whole is chained =
     (chained.entries i j row col)))
 
 -- what a chain of these steps answers
-abbrev pub ChainsTo : {N G : Type 0} → ℕ → (N → ℤ) → (G → List ℕ) → (G → List (List ℤ)) → TableOf G → Result (TableOf G) Refused
+abbrev pub ChainsTo : {N G : Type 0} → ℕ → (N → ℤ) → (G → List ℕ) → (G → List (List ℤ)) → TableOf G →
+    Result (TableOf G) Refused
     → Counts → Counts → List (Step N) → Type 0
 ChainsTo bits value codes dictionary t result before now steps =
     MapsTable codes dictionary (λ i j. chain_value (map (step_cell value) steps) (table_entry codes dictionary t i j))
-    (chain_fault bits (rows_of_table t) (cols_of_table t) (map (step_cell value) steps) (table_entry codes dictionary t))
+    (chain_fault bits (rows_of_table t) (cols_of_table t) (map (step_cell value) steps)
+    (table_entry codes dictionary t))
     (values_of (parts_of codes dictionary t.parts) * length steps) t result before now
 
 -- and the refusal of one that multiplies
-pub refused_is : {N G : Type 0} (bits : ℕ) (value : N → ℤ) (codes : G → List ℕ) (dictionary : G → List (List ℤ)) (t : TableOf G)
-    (m : Matrix) (k : ℤ) (steps : List (Step N)) (step : Step N) (refused : Refused) (before now : Counts) → steps ≡ step ∷ []
-    → chain_fault bits (rows_of_table t) (cols_of_table t) (step_cell value step ∷ []) (table_entry codes dictionary t) ≡ product_fault bits m k
+pub refused_is : {N G : Type 0} (bits : ℕ) (value : N → ℤ) (codes : G → List ℕ) (dictionary : G → List (List ℤ))
+    (t : TableOf G)
+    (m : Matrix) (k : ℤ) (steps : List (Step N)) (step : Step N) (refused : Refused) (before now : Counts) →
+    steps ≡ step ∷ []
+    → chain_fault bits (rows_of_table t) (cols_of_table t) (step_cell value step ∷ []) (table_entry codes dictionary t)
+    ≡ product_fault bits m k
     → ChainsTo bits value codes dictionary t (Err refused) before now steps → AnswersProduct bits m k (Err refused)
 refused_is bits value codes dictionary t m k steps step (Op found) before now are is maps =
     sym is ∙ subst (ChainsTo bits value codes dictionary t (Err (Op found)) before now) are maps
 refused_is bits value codes dictionary t m k steps step Memory before now are is maps = record {}
 
 -- cells have the shape of what they are mapped to
-pub shape_is : {X : Type 0} (value : X → ℤ) (rows cols : ℕ) (cells : List X) (values : List ℤ) → map value cells ≡ values
+pub shape_is : {X : Type 0} (value : X → ℤ) (rows cols : ℕ) (cells : List X) (values : List ℤ) →
+    map value cells ≡ values
     → IsShaped rows cols cells → IsShaped rows cols values
 shape_is value rows cols cells values are shaped = record {
   a_row = shaped.a_row;
@@ -337,4 +368,5 @@ pub loose_matrix : {G : Type 0} (codes : G → List ℕ) (dictionary : G → Lis
     → IsShaped m.rows m.cols m.cells → layout_of codes dictionary t ≡ loose_layout m → t.flipped ≡ false
     → matrix_of codes dictionary t ≡ m
 loose_matrix codes dictionary t m shaped is flat =
-    subst (λ (f : Bool). matrix_as f (layout_of codes dictionary t) ≡ m) (sym flat) (ap matrix_in is ∙ loose_stands m shaped)
+    subst (λ (f : Bool). matrix_as f (layout_of codes dictionary t) ≡ m) (sym flat) (ap matrix_in is
+    ∙ loose_stands m shaped)

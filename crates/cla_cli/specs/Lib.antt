@@ -5,6 +5,7 @@ pub mod Texts
 pub mod Statements
 pub mod Tables
 pub mod Evaluate
+pub mod Stats
 pub mod Outcome
 pub mod Needed
 pub mod Run

@@ -28,16 +28,18 @@ abbrev pub ReadsNoOther : List ℕ → Option Reading → Type 0
 ReadsNoOther name None = Unit {0}
 ReadsNoOther name (Some r) = r.name ≡ name
 
--- What is known of a file that has to be there. `Holds` says what an answer tells of its text, and `Refuses` what a refusal
--- tells of it.
-abbrev pub ReadsIn : {T R : Type 0} → (List ℕ → T → Type 0) → (List ℕ → R → Type 0) → Told → List ℕ → Result T (Unread R) → Type 0
+-- What is known of a file that has to be there. `Holds` says what an answer tells of its text, and `Refuses` what a
+-- refusal tells of it.
+abbrev pub ReadsIn : {T R : Type 0} → (List ℕ → T → Type 0) → (List ℕ → R → Type 0) → Told → List ℕ →
+    Result T (Unread R) → Type 0
 ReadsIn Holds Refuses told name (Ok x) = (text : List ℕ) × (fin.get told name ≡ Some text) × Holds text x
 ReadsIn Holds Refuses told name (Err Missing) = fin.get told name ≡ None
 ReadsIn Holds Refuses told name (Err Fault) = Unit {0}
 ReadsIn Holds Refuses told name (Err Memory) = Unit {0}
 ReadsIn Holds Refuses told name (Err (Refused r)) = (text : List ℕ) × (fin.get told name ≡ Some text) × Refuses text r
 
-abbrev pub ReadsWhereTold : {T R : Type 0} → (List ℕ → T → Type 0) → (List ℕ → R → Type 0) → Option Told → List ℕ → Result T (Unread R)
+abbrev pub ReadsWhereTold : {T R : Type 0} → (List ℕ → T → Type 0) → (List ℕ → R → Type 0) → Option Told → List ℕ →
+    Result T (Unread R)
     → Type 0
 ReadsWhereTold Holds Refuses None name result = Unit {0}
 ReadsWhereTold Holds Refuses (Some told) name result = ReadsIn Holds Refuses told name result

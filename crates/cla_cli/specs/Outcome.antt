@@ -1,4 +1,5 @@
--- What a command line comes to: its status, its effects, the files that it needs, its counts and its line on standard error.
+-- What a command line comes to: its status, its effects, the files that it needs, its counts and its line on standard
+-- error.
 use Rattle.std.specs.Prelude.{ℕ, List, [], ◌∷◌, length, map, Option, Some, None, Bool, Result, Ok, Err, nat_le, if◌then◌else◌}
 use Rattle.std.specs.FinMap as fin
 use Rattle.cla_spec.specs.Files.{Told}
@@ -15,18 +16,20 @@ use Rattle.cla_grammar.specs.Faults as grammar
 use Rattle.cla_grammar.specs.Tree.{Statement}
 use Rattle.cla_tokens.specs.Scripts.{script_in}
 use Rattle.cla_script.specs.Clashes.{first_clash}
+use Rattle.cla_grouping.specs.Grouping.{grouping_of, packed_size}
 use Rattle.cla_check.specs.Scripts.{first_shape_fault}
 use Rattle.cla_check.specs.declared.shape.Shape.{Shape}
 use Rattle.cla_check.specs.declared.fault.Fault as shapes
 use Rattle.cla_cli.specs.declared.status.Status.{Status}
-use Rattle.cla_cli.specs.declared.status.Status.TheVariants.{Done, Usage, Missing, BadScript, BadFile, Limit, Operator}
+use Rattle.cla_cli.specs.declared.status.Status.TheVariants.{Done, Usage, Missing, BadScript, BadFile, Limit, Operator, OverBudget}
 use Rattle.cla_cli.specs.declared.status.BadKind.{BadKind}
 use Rattle.cla_cli.specs.declared.status.BadKind.TheVariants as kind
 use Rattle.cla_cli.specs.declared.status.FileFault.TheVariants as file
-use Rattle.cla_cli.specs.Limits.{script_limit, table_limit}
-use Rattle.cla_cli.specs.Words.{Command, RunScript, accepted_command}
-use Rattle.cla_cli.specs.Texts.{usage_line, missing_line, limit_line, script_line, table_line, operator_line}
-use Rattle.cla_cli.specs.Statements.{Trace, trace_of, script_work, are_built, files_read}
+use Rattle.cla_cli.specs.Limits.{script_limit, table_limit, most_budget}
+use Rattle.cla_cli.specs.Words.{Command, RunScript, StatsOf, accepted_command}
+use Rattle.cla_cli.specs.Texts.{usage_line, missing_line, limit_line, script_line, table_line, operator_line, budget_line}
+use Rattle.cla_cli.specs.Stats.{stats_text}
+use Rattle.cla_cli.specs.Statements.{Trace, printing, trace_of, script_work, are_built, files_read}
 
 pub record Outcome : Type 0 where
   pub status : Status
@@ -45,7 +48,14 @@ pub record Refusal : Type 0 where
 
 -- a check refuses
 abbrev pub refused : Refusal → Outcome
-refused refusal = record { status = refusal.status; effects = []; needed = []; counts = zero_counts; line = Some refusal.line }
+refused refusal = record {
+  status = refusal.status;
+  effects = [];
+  needed = [];
+  counts = zero_counts;
+  line =
+      Some refusal.line;
+}
 
 -- a check reads this file, and others may follow
 abbrev pub needing : List ℕ → Outcome → Outcome
@@ -117,14 +127,25 @@ table_or_refusal name (Err fault) = Err (table_refusal name fault)
 abbrev pub checked_table : ℕ → List ℕ → List ℕ → Result Matrix Refusal
 checked_table bits name text = table_or_refusal name (matrix_in bits table_limit text)
 
--- the table of this name, and the tables of these names one after the other
-abbrev pub with_table : ℕ → Told → List ℕ → (Matrix → Outcome) → Outcome
-with_table bits told name next =
-    needing name (unless_missing name (fin.get told name) (λ text. unless_refused (checked_table bits name text) next))
+-- a table's cut takes more bytes, as a packed file, than a budget
+abbrev pub budget_refusal : List ℕ → ℕ → ℕ → Refusal
+budget_refusal name needed budget = record { status = OverBudget needed budget; line = budget_line name needed budget }
 
-abbrev pub with_tables : ℕ → Told → List (List ℕ) → (List Matrix → Outcome) → Outcome
-with_tables bits told [] next = next []
-with_tables bits told (name ∷ names) next = with_table bits told name (λ m. with_tables bits told names (λ ms. next (m ∷ ms)))
+abbrev pub unless_larger : List ℕ → ℕ → ℕ → Outcome → Outcome
+unless_larger name budget size next = if nat_le size budget then next else refused (budget_refusal name size budget)
+
+-- the table of this name, within a budget, and the tables of these names one after the other
+abbrev pub with_table : ℕ → ℕ → Told → List ℕ → (Matrix → Outcome) → Outcome
+with_table bits budget told name next =
+    needing name
+    (unless_missing name (fin.get told name)
+    (λ text. unless_refused (checked_table bits name text)
+    (λ m. unless_larger name budget (packed_size (grouping_of m)) (next m))))
+
+abbrev pub with_tables : ℕ → ℕ → Told → List (List ℕ) → (List Matrix → Outcome) → Outcome
+with_tables bits budget told [] next = next []
+with_tables bits budget told (name ∷ names) next =
+    with_table bits budget told name (λ m. with_tables bits budget told names (λ ms. next (m ∷ ms)))
 
 -- all operators were evaluated, or one failed
 abbrev pub status_after : Option (Place × OpFault) → Status
@@ -136,8 +157,14 @@ line_after None = None
 line_after (Some fault) = Some (operator_line fault.0 fault.1)
 
 abbrev pub evaluated : Counts → Trace → Outcome
-evaluated counts trace = record
-    { status = status_after trace.fault; effects = trace.effects; needed = []; counts = counts; line = line_after trace.fault }
+evaluated counts trace = record {
+  status = status_after trace.fault;
+  effects = trace.effects;
+  needed = [];
+  counts = counts;
+  line =
+      line_after trace.fault;
+}
 
 -- the checks of a script over its tables: shapes, and whether all statements run today
 abbrev pub shape_of_table : Matrix → Shape
@@ -161,20 +188,35 @@ abbrev pub tables_outcome : ℕ → List Statement → List Matrix → Outcome
 tables_outcome bits xs tables = unless_refused (checked_statements xs tables) (λ u. statements_outcome bits xs tables)
 
 -- what statements come to: each table in the order of its reads, then shapes, then the statements one after the other
-abbrev pub reads_outcome : ℕ → Told → List Statement → Outcome
-reads_outcome bits told xs = with_tables bits told (files_read xs) (tables_outcome bits xs)
+abbrev pub reads_outcome : ℕ → ℕ → Told → List Statement → Outcome
+reads_outcome bits budget told xs = with_tables bits budget told (files_read xs) (tables_outcome bits xs)
 
 -- what a script comes to: it is there, isn't too long, and its text is a script
-abbrev pub script_outcome : ℕ → Told → List ℕ → Outcome
-script_outcome bits told name =
+abbrev pub script_outcome : ℕ → ℕ → Told → List ℕ → Outcome
+script_outcome bits budget told name =
     needing name
     (unless_missing name (fin.get told name)
-    (λ text. unless_longer name script_limit text (unless_refused (checked_script bits text) (reads_outcome bits told))))
+    (λ text. unless_longer name script_limit text
+    (unless_refused (checked_script bits text) (reads_outcome bits budget told))))
+
+-- a text is printed, and no operator is counted
+abbrev pub text_outcome : List ℕ → Outcome
+text_outcome text = evaluated zero_counts (printing text)
+
+-- how the table of this name is grouped, whatever it takes
+abbrev pub stats_outcome : ℕ → Told → List ℕ → Outcome
+stats_outcome bits told name = with_table bits most_budget told name (λ m. text_outcome (stats_text m))
+
+-- the budget that was asked for, or the greatest one
+abbrev pub budget_or_most : Option ℕ → ℕ
+budget_or_most None = most_budget
+budget_or_most (Some budget) = budget
 
 abbrev pub command_outcome : ℕ → Told → Command → Outcome
-command_outcome bits told (RunScript name) = script_outcome bits told name
+command_outcome bits told (RunScript name budget) = script_outcome bits (budget_or_most budget) told name
+command_outcome bits told (StatsOf name) = stats_outcome bits told name
 
--- what these words come to over files that hold this, with numbers of this many bits: the checks come in this order, and
--- the first refusal decides
+-- what these words come to over files that hold this, with numbers of this many bits: the checks come in this order,
+-- and the first refusal decides
 abbrev pub outcome_of : ℕ → List (List ℕ) → Told → Outcome
 outcome_of bits words told = unless_usage (accepted_command bits words) (command_outcome bits told)

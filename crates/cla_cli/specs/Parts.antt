@@ -1,5 +1,5 @@
 -- What the parts of the top call do.
-use Rattle.std.specs.Prelude.{◌≡◌, ℕ, List, [], Option, Some, None, Contains, ◌⊎◌, Result, Ok, Err}
+use Rattle.std.specs.Prelude.{◌≡◌, ◌≤◌, ◌<◌, ℕ, List, [], Option, Some, None, Contains, ◌⊎◌, Result, Ok, Err}
 use Rattle.cla_spec.specs.Files.{Told}
 use Rattle.cla_spec.specs.Effects.{Out}
 use Rattle.cla_num.specs.Counts.{Counts}
@@ -18,35 +18,42 @@ use Rattle.cla_cli.specs.declared.unfinished.Unfinished.{Unfinished}
 use Rattle.cla_cli.specs.declared.unfinished.Unfinished.TheVariants as unfinished
 use Rattle.cla_cli.specs.declared.statements.Halted.{Halted}
 use Rattle.cla_cli.specs.declared.statements.Halted.TheVariants as halted
-use Rattle.cla_cli.specs.Texts.{memory_line, unreadable_line, unwritable_line, missing_line, script_line, operator_line}
+use Rattle.cla_cli.specs.Texts.{memory_line, unreadable_line, unwritable_line, missing_line, script_line, operator_line, budget_line}
 use Rattle.cla_cli.specs.Limits.{script_limit}
-use Rattle.cla_cli.specs.Outcome.{Outcome, Refusal, limit_refusal, refusal_at, script_outcome}
+use Rattle.cla_cli.specs.Outcome.{Outcome, Refusal, limit_refusal, refusal_at}
 use Rattle.cla_cli.specs.Run.{Settled, OutOfMemory, ReadFailed, WriteFailed, IsRefusal, Written, MayEnd, FaultsCome, MissesCome, HasLine, HasFrontOfLine, RiseBy, RiseByAtMost, AreNotBelow}
 
 -- A command is done, or why it isn't: each as one ending of its outcome.
-abbrev pub Comes : {U : Type 0} → Outcome → Told → Told → State → State → Written → Written → Result U Unfinished → Type 0
-Comes o told told' old new out out' (Ok u) = (o.status ≡ answer.Done) × MayEnd o told told' old new out out' Settled None
+abbrev pub Comes : {U : Type 0} → Outcome → Told → Told → State → State → Written → Written → Result U Unfinished →
+    Type 0
+Comes o told told' old new out out' (Ok u) = (o.status ≡ answer.Done)
+    × MayEnd o told told' old new out out' Settled None
 Comes o told told' old new out out' (Err (unfinished.Refused status line)) = (o.status ≡ status)
     × MayEnd o told told' old new out out' Settled (Some line)
-Comes o told told' old new out out' (Err (unfinished.Unread line)) = MayEnd o told told' old new out out' ReadFailed (Some line)
+Comes o told told' old new out out' (Err (unfinished.Unread line)) =
+    MayEnd o told told' old new out out' ReadFailed (Some line)
 Comes o told told' old new out out' (Err unfinished.OutputUnwritten) = MayEnd o told told' old new out out' WriteFailed
     (Some (unwritable_line (Out [])))
-Comes o told told' old new out out' (Err unfinished.Memory) = MayEnd o told told' old new out out' OutOfMemory (Some memory_line)
+Comes o told told' old new out out' (Err unfinished.Memory) =
+    MayEnd o told told' old new out out' OutOfMemory (Some memory_line)
 
-abbrev pub ComesWhereTold : {U : Type 0} → ℕ → List ℕ → Option Told → Option Told → State → State → Written → Written
+abbrev pub ComesWhereTold : {U : Type 0} → (Told → Outcome) → Option Told → Option Told → State → State → Written →
+    Written
     → Result U Unfinished → Type 0
-ComesWhereTold bits name None told' old new out out' result = told' ≡ None
-ComesWhereTold bits name (Some told) None old new out out' result = ⊥
-ComesWhereTold bits name (Some told) (Some told') old new out out' result = Comes (script_outcome bits told name) told told' old new out
-    out' result
+ComesWhereTold o None told' old new out out' result = told' ≡ None
+ComesWhereTold o (Some told) None old new out out' result = ⊥
+ComesWhereTold o (Some told) (Some told') old new out out' result = Comes (o told) told told' old new out out' result
 
 -- which counts tell of it, whether anything else is told or not
 abbrev pub HasEnding : {U : Type 0} → State → State → ℕ → ℕ → Result U Unfinished → Type 0
 HasEnding old new before after (Ok u) = FaultsCome old new before after Settled × (new.misses ≡ old.misses)
-HasEnding old new before after (Err (unfinished.Refused status line)) = IsRefusal status × FaultsCome old new before after Settled
+HasEnding old new before after (Err (unfinished.Refused status line)) = IsRefusal status
+    × FaultsCome old new before after Settled
     × MissesCome old new status
-HasEnding old new before after (Err (unfinished.Unread line)) = FaultsCome old new before after ReadFailed × (new.misses ≡ old.misses)
-HasEnding old new before after (Err unfinished.OutputUnwritten) = FaultsCome old new before after WriteFailed × (new.misses ≡ old.misses)
+HasEnding old new before after (Err (unfinished.Unread line)) = FaultsCome old new before after ReadFailed
+    × (new.misses ≡ old.misses)
+HasEnding old new before after (Err unfinished.OutputUnwritten) = FaultsCome old new before after WriteFailed
+    × (new.misses ≡ old.misses)
 HasEnding old new before after (Err unfinished.Memory) = Unit {0}
 
 -- the operations that were counted on the way
@@ -57,24 +64,27 @@ HasCounts counts before now (Err (unfinished.Refused status line)) = RiseByAtMos
 HasCounts counts before now (Err unfinished.OutputUnwritten) = RiseByAtMost counts before now
 HasCounts counts before now (Err unfinished.Memory) = RiseByAtMost counts before now
 
-abbrev pub HasCountsWhereTold : {U : Type 0} → ℕ → List ℕ → Option Told → Counts → Counts → Result U Unfinished → Type 0
-HasCountsWhereTold bits name None before now result = AreNotBelow before now
-HasCountsWhereTold bits name (Some told) before now result = HasCounts (script_outcome bits told name).counts before now result
+abbrev pub HasCountsWhereTold : {U : Type 0} → (Told → Outcome) → Option Told → Counts → Counts → Result U Unfinished →
+    Type 0
+HasCountsWhereTold o None before now result = AreNotBelow before now
+HasCountsWhereTold o (Some told) before now result = HasCounts (o told).counts before now result
 
 -- no file is being read but one that the checks need
 abbrev pub IsNeeded : List (List ℕ) → Option Reading → Type 0
 IsNeeded needed None = Unit {0}
 IsNeeded needed (Some r) = Contains needed r.name
 
-abbrev pub IsNeededWhereTold : ℕ → List ℕ → Option Told → Option Reading → Type 0
-IsNeededWhereTold bits name None reading = Unit {0}
-IsNeededWhereTold bits name (Some told) reading = IsNeeded (script_outcome bits told name).needed reading
+abbrev pub IsNeededWhereTold : (Told → Outcome) → Option Told → Option Reading → Type 0
+IsNeededWhereTold o None reading = Unit {0}
+IsNeededWhereTold o (Some told) reading = IsNeeded (o told).needed reading
 
 -- why a file of this name isn't read, as it is told; `refusal` is what a check answers of its text
 abbrev pub TellsUnread : {R : Type 0} → (R → Refusal) → List ℕ → Unread R → Unfinished → Type 0
 TellsUnread refusal name reason unfinished.Memory = Unit {0}
-TellsUnread refusal name unread.Missing (unfinished.Refused status line) = (status ≡ answer.Missing) × (line ≡ missing_line name)
-TellsUnread refusal name (unread.Refused r) (unfinished.Refused status line) = (status ≡ (refusal r).status) × (line ≡ (refusal r).line)
+TellsUnread refusal name unread.Missing (unfinished.Refused status line) = (status ≡ answer.Missing)
+    × (line ≡ missing_line name)
+TellsUnread refusal name (unread.Refused r) (unfinished.Refused status line) = (status ≡ (refusal r).status)
+    × (line ≡ (refusal r).line)
 TellsUnread refusal name unread.Fault (unfinished.Unread line) = line ≡ unreadable_line name
 TellsUnread refusal name reason told = ⊥
 
@@ -83,7 +93,8 @@ refusal_of_text name fault = limit_refusal name script_limit
 
 -- a script is refused at a place, as it is told
 abbrev pub RefusesAt : Place → BadKind → Unfinished → Type 0
-RefusesAt place kind (unfinished.Refused status line) = (status ≡ answer.BadScript place kind) × (line ≡ script_line place kind)
+RefusesAt place kind (unfinished.Refused status line) = (status ≡ answer.BadScript place kind)
+    × (line ≡ script_line place kind)
 RefusesAt place kind unfinished.Memory = Unit {0}
 RefusesAt place kind told = ⊥
 
@@ -95,10 +106,24 @@ TellsFault script.Memory told = told ≡ unfinished.Memory
 -- a check of a script passes with this view of what was checked, or it refuses the script at a place
 abbrev pub Passes : {T X : Type 0} → (T → X) → Result X Refusal → Result T Unfinished → Type 0
 Passes view checked (Ok x) = checked ≡ Ok (view x)
-Passes view checked (Err (unfinished.Refused status line)) = (place : Place) × ((kind : BadKind) × (status ≡ answer.BadScript place kind)
+Passes view checked (Err (unfinished.Refused status line)) = (place : Place)
+    × ((kind : BadKind) × (status ≡ answer.BadScript place kind)
     × (line ≡ script_line place kind) × (checked ≡ Err (refusal_at place kind)))
 Passes view checked (Err unfinished.Memory) = Unit {0}
 Passes view checked (Err e) = ⊥
+
+-- a table of so many bytes is refused by a budget, as it is told
+abbrev pub Exceeds : List ℕ → ℕ → ℕ → Unfinished → Type 0
+Exceeds name budget size (unfinished.Refused status line) = (status ≡ answer.OverBudget size budget)
+    × (line ≡ budget_line name size budget)
+Exceeds name budget size unfinished.Memory = Unit {0}
+Exceeds name budget size told = ⊥
+
+-- a table of so many bytes is within a budget, or it is refused; memory may be wanting
+abbrev pub Fits : {U : Type 0} → List ℕ → ℕ → ℕ → Result U Unfinished → Type 0
+Fits name budget size (Ok u) = size ≤ budget
+Fits name budget size (Err unfinished.Memory) = Unit {0}
+Fits name budget size (Err e) = (budget < size) × Exceeds name budget size e
 
 -- the first checks of an outcome pass, and the rest of them decide; files that they read were needed
 pub record Reaches (whole rest : Outcome) : Type 0 where
@@ -134,5 +159,6 @@ TellsLine line status err err' result = ((result ≡ status) × HasLine (Some li
 abbrev pub Tells : Unfinished → Written → Written → Status → Type 0
 Tells (unfinished.Refused status line) err err' result = TellsLine line status err err' result
 Tells (unfinished.Unread line) err err' result = TellsLine line answer.ReadFault err err' result
-Tells unfinished.OutputUnwritten err err' result = TellsLine (unwritable_line (Out [])) answer.WriteFault err err' result
+Tells unfinished.OutputUnwritten err err' result =
+    TellsLine (unwritable_line (Out [])) answer.WriteFault err err' result
 Tells unfinished.Memory err err' result = TellsLine memory_line answer.Memory err err' result

@@ -40,8 +40,8 @@ pub record Written : Type 0 where
 abbrev pub written : Option (List ℕ) → ℕ → Written
 written told faults = record { told = told; faults = faults }
 
--- Counts of faults rise with the endings that tell of them and with no other; with want of memory nothing is said, since
--- it may come while another ending is told.
+-- Counts of faults rise with the endings that tell of them and with no other; with want of memory nothing is said,
+-- since it may come while another ending is told.
 abbrev pub FaultsCome : State → State → ℕ → ℕ → Ending → Type 0
 FaultsCome old new before after Settled = (new.read_faults ≡ old.read_faults) × (after ≡ before)
 FaultsCome old new before after OutOfMemory = Unit {0}
@@ -53,13 +53,14 @@ abbrev pub FaultRose : Effect → Written → Written → Type 0
 FaultRose (Out text) out out' = Rose out.faults out'.faults
 FaultRose (File name bytes) out out' = ⊥
 
--- What an ending leaves of the world, and the line that tells it, if there is one. The outcome's effects are all applied
--- where it decides. A fault of reading is one of a file that the checks read, which all pass before it, and leaves all as
--- it was. A fault of writing comes before a next effect, whose count of faults rose.
+-- What an ending leaves of the world, and the line that tells it, if there is one. The outcome's effects are all
+-- applied where it decides. A fault of reading is one of a file that the checks read, which all pass before it, and
+-- leaves all as it was. A fault of writing comes before a next effect, whose count of faults rose.
 abbrev pub Leaves : Outcome → World → World → Written → Written → Ending → Option (List ℕ) → Type 0
 Leaves o w v out out' Settled line = (v ≡ applied o.effects w) × (line ≡ o.line)
 Leaves o w v out out' OutOfMemory line = IsFront o.effects w v × (line ≡ Some memory_line)
-Leaves o w v out out' ReadFailed line = (v ≡ w) × ((name : List ℕ) × Contains o.needed name × (line ≡ Some (unreadable_line name)))
+Leaves o w v out out' ReadFailed line = (v ≡ w)
+    × ((name : List ℕ) × Contains o.needed name × (line ≡ Some (unreadable_line name)))
 Leaves o w v out out' WriteFailed line = (e : Effect) × IsFrontBefore o.effects e w v × FaultRose e out out'
     × (line ≡ Some (unwritable_line e))
 
@@ -80,10 +81,12 @@ abbrev pub HasFrontOfLine : Option (List ℕ) → Written → Written → Type 0
 HasFrontOfLine None err err' = err'.told ≡ err.told
 HasFrontOfLine (Some line) err err' = (n : ℕ) × (err'.told ≡ grown err.told (take n line))
 
--- How a run ends: one witness ties its status, its effects and its line. Where memory is wanting, it was wanting for the
--- run or for the line of another ending.
-abbrev pub Ends : Outcome → Told → Told → State → State → Written → Written → Written → Written → Status → Ending → Type 0
-Ends o told told' old new out out' err err' status Settled = (o.status ≡ status) × MayEnd o told told' old new out out' Settled o.line
+-- How a run ends: one witness ties its status, its effects and its line. Where memory is wanting, it was wanting for
+-- the run or for the line of another ending.
+abbrev pub Ends : Outcome → Told → Told → State → State → Written → Written → Written → Written → Status → Ending →
+    Type 0
+Ends o told told' old new out out' err err' status Settled = (o.status ≡ status)
+    × MayEnd o told told' old new out out' Settled o.line
     × HasLine o.line err err'
 Ends o told told' old new out out' err err' status OutOfMemory = (ending : Ending)
     × ((line : Option (List ℕ)) × MayEnd o told told' old new out out' ending line × HasFrontOfLine line err err')
@@ -93,11 +96,13 @@ Ends o told told' old new out out' err err' status WriteFailed = (line : Option 
     × MayEnd o told told' old new out out' WriteFailed line × HasLine line err err'
 
 -- the same, where the files tell
-abbrev pub EndsWhereTold : ℕ → List (List ℕ) → Option Told → Option Told → State → State → Written → Written → Written → Written
+abbrev pub EndsWhereTold : ℕ → List (List ℕ) → Option Told → Option Told → State → State → Written → Written → Written →
+    Written
     → Status → Type 0
 EndsWhereTold bits words None told' old new out out' err err' status = told' ≡ None
 EndsWhereTold bits words (Some told) None old new out out' err err' status = ⊥
-EndsWhereTold bits words (Some told) (Some told') old new out out' err err' status = Ends (outcome_of bits words told) told told' old
+EndsWhereTold bits words (Some told) (Some told') old new out out' err err' status =
+    Ends (outcome_of bits words told) told told' old
     new out out' err err' status (ending_of status)
 
 -- how often files were missing: once more with that status, and as often as before with others; with want of memory
@@ -114,8 +119,8 @@ Completes bits words (Some told) old new before after status =
     (outcome_of bits words told).status ≡ Done → (Rose old.read_faults new.read_faults → ⊥) → (Rose before after → ⊥)
     → (status ≡ Done) ⊎ (status ≡ Memory)
 
--- No file is being written, whether files are steady stays, and no count of theirs falls; that of faults of writing stays,
--- since no command writes a file today.
+-- No file is being written, whether files are steady stays, and no count of theirs falls; that of faults of writing
+-- stays, since no command writes a file today.
 pub record Keeps (old new : State) : Type 0 where
   pub writing : new.writing ≡ None
   pub steady : new.steady ≡ old.steady
@@ -137,7 +142,8 @@ pub record RiseByAtMost (counts before now : Counts) : Type 0 where
   pub mults : now.mults ≤ before.mults + counts.mults
   pub maps : now.maps ≤ before.maps + counts.maps
 
--- a finished run has made exactly the outcome's operations, one that couldn't read a file none, and any other at most these
+-- a finished run has made exactly the outcome's operations, one that couldn't read a file none, and any other at most
+-- these
 abbrev pub CountsCome : Counts → Counts → Counts → Status → Type 0
 CountsCome counts before now Done = RiseBy counts before now
 CountsCome counts before now ReadFault = now ≡ before
@@ -145,7 +151,8 @@ CountsCome counts before now status = RiseByAtMost counts before now
 
 abbrev pub CountsWhereTold : ℕ → List (List ℕ) → Option Told → Counts → Counts → Status → Type 0
 CountsWhereTold bits words None before now status = AreNotBelow before now
-CountsWhereTold bits words (Some told) before now status = CountsCome (outcome_of bits words told).counts before now status
+CountsWhereTold bits words (Some told) before now status =
+    CountsCome (outcome_of bits words told).counts before now status
 
 -- the file that is being read at the end is the one of the start or one that the checks need
 abbrev pub ReadsOnly : List (List ℕ) → Option Reading → Option Reading → Type 0

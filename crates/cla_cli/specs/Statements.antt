@@ -78,7 +78,8 @@ product_summed bits sum times m k = None
 
 abbrev pub summed : ℕ → Assigned → Place → Tree → Option Valued
 summed bits names p (Named q n) = option_map (sum_of bits p) (matrix_of names n)
-summed bits names p (Binary q o a b) = if is_product o then product_summed bits p q (matrix_at names a) (number_at b) else None
+summed bits names p (Binary q o a b) = if is_product o then product_summed bits p q (matrix_at names a) (number_at b)
+    else None
 summed bits names p e = None
 
 abbrev pub counted : ℕ → Place → (Matrix → ℕ) → Option Matrix → Option Valued
@@ -96,8 +97,8 @@ value_of bits names (Named p n) = option_map (λ m. Ok (Table m)) (matrix_of nam
 value_of bits names (Apply p f e) = called bits names p f e
 value_of bits names e = None
 
--- whether an expression runs today: a number, a table's name, and the calls sum(N), sum(N * K), nrow(N) and ncol(N) of a
--- name N and a number K
+-- whether an expression runs today: a number, a table's name, and the calls sum(N), sum(N * K), nrow(N) and ncol(N) of
+-- a name N and a number K
 abbrev pub is_name : Tree → Bool
 is_name (Named q n) = true
 is_name e = false
@@ -133,8 +134,8 @@ does_run (SaveOf w p e q f) = false
 abbrev pub are_built : List Statement → Bool
 are_built xs = list_all does_run xs
 
--- The counts of an expression's operators, where a table is kept as one plain group: a sum multiplies once for each cell,
--- and a product maps each cell.
+-- The counts of an expression's operators, where a table is kept as one plain group: a sum multiplies once for each
+-- cell, and a product maps each cell.
 abbrev pub sum_counts : Matrix → Counts
 sum_counts m = record { mults = m.rows * m.cols; maps = 0 }
 
@@ -151,7 +152,8 @@ product_sum_work m k = zero_counts
 
 abbrev pub sum_work : Assigned → Tree → Counts
 sum_work names (Named q n) = counts_over sum_counts (matrix_of names n)
-sum_work names (Binary q o a b) = if is_product o then product_sum_work (matrix_at names a) (number_at b) else zero_counts
+sum_work names (Binary q o a b) = if is_product o then product_sum_work (matrix_at names a) (number_at b) else
+    zero_counts
 sum_work names e = zero_counts
 
 abbrev pub call_work : Assigned → Call → Tree → Counts
@@ -172,6 +174,10 @@ pub record Trace : Type 0 where
 
 abbrev pub nothing_done : Trace
 nothing_done = record { effects = []; fault = None }
+
+-- a text that is all that a command prints
+abbrev pub printing : List ℕ → Trace
+printing text = record { effects = Out text ∷ []; fault = None }
 
 -- a statement prints its value before the rest, or its operator fails
 abbrev pub then_prints : Option Valued → Trace → Trace

@@ -43,7 +43,8 @@ limit_line name limit = codes "limit " ++ name ++ codes ": " ++ more_bytes_text 
 abbrev pub bad_line_text : ℕ → List ℕ → List ℕ
 bad_line_text n kind = codes "line " ++ decimal_of (pos n) ++ codes ": " ++ kind
 
--- what is wrong with a table: its first bad line, or the limit that it passes. A text has no fault of the last two kinds.
+-- what is wrong with a table: its first bad line, or the limit that it passes. A text has no fault of the last two
+-- kinds.
 abbrev pub table_fault_text : MtxFault → List ℕ
 table_fault_text (mtx.Banner n) = bad_line_text n (codes "Banner")
 table_fault_text (mtx.Unsupported place) = codes "line 1: unsupported word " ++ decimal_of (pos place)
@@ -91,7 +92,8 @@ bad_kind_text (Shape kind) = shape_kind_text kind
 bad_kind_text Unbuilt = codes "Unbuilt"
 
 abbrev pub script_line : Place → BadKind → List ℕ
-script_line place kind = codes "script " ++ decimal_of (pos place.line) ++ codes ":" ++ decimal_of (pos place.col) ++ codes ": " ++
+script_line place kind = codes "script " ++ decimal_of (pos place.line) ++ codes ":" ++ decimal_of (pos place.col)
+    ++ codes ": " ++
     bad_kind_text kind ++ codes "\n"
 
 -- what is wrong with an entry
@@ -102,5 +104,12 @@ reason_text Zero = codes ") divides by zero"
 -- the line that tells an operator's fault: its place, and its first faulty entry
 abbrev pub operator_line : Place → OpFault → List ℕ
 operator_line place fault =
-    codes "operator " ++ decimal_of (pos place.line) ++ codes ":" ++ decimal_of (pos place.col) ++ codes ": entry (" ++ decimal_of
+    codes "operator " ++ decimal_of (pos place.line) ++ codes ":" ++ decimal_of (pos place.col) ++ codes ": entry ("
+    ++ decimal_of
     (pos fault.row) ++ codes ", " ++ decimal_of (pos fault.col) ++ reason_text fault.what ++ codes "\n"
+
+-- the line that tells that a table takes more bytes than its budget
+abbrev pub budget_line : List ℕ → ℕ → ℕ → List ℕ
+budget_line name needed budget =
+    codes "budget " ++ name ++ codes ": needs " ++ decimal_of (pos needed) ++ codes ", has " ++ decimal_of (pos budget)
+    ++ codes "\n"

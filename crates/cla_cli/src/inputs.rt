@@ -1,6 +1,6 @@
 //! What a run needs before its first statement: the script and its tables.
 
-ghost use Rattle.std.specs.Prelude.{◌≡◌, ◌≤◌, ◌<◌, ◌^◌, List, Some, None, All, IfOk, length, map};
+ghost use Rattle.std.specs.Prelude.{◌≡◌, ◌≤◌, ◌<◌, ◌^◌, ℕ, List, Some, None, All, IfOk, length, map};
 ghost use Rattle.cla_spec.specs.Files.{Told};
 ghost use Rattle.cla_spec.specs.Matrix.{Matrix};
 ghost use Rattle.cla_num.specs.Bits.{IsSupported};
@@ -10,21 +10,21 @@ ghost use Rattle.cla_tokens.specs.Formed.{AllFormed};
 ghost use Rattle.cla_check.specs.Scripts.{IsInLimits, reads_in};
 ghost use Rattle.cla_check.specs.Checks.{script_of};
 ghost use Rattle.cla_cli.specs.Statements.{files_read};
-ghost use Rattle.cla_cli.specs.Outcome.{Outcome, checked_script, checked_statements, table_refusal, with_table, with_tables, reads_outcome, statements_outcome, script_outcome, shape_of_table};
+ghost use Rattle.cla_cli.specs.Outcome.{Outcome, checked_script, checked_statements, with_table, with_tables, reads_outcome, statements_outcome, script_outcome, shape_of_table};
 ghost use Rattle.cla_cli.specs.Needed.{ReadsNoOther};
 ghost use Rattle.cla_cli.specs.Run.{ReadsOnly};
 ghost use Rattle.cla_cli.specs.Parts.{HasEnding, IsNeeded, Lets, Passes, RefusesAt, TellsFault, TellsUnread, refusal_of_text};
 
 use crate::built::are_built;
-use crate::lines::{limit_line, missing_line, script_line, table_line, unreadable_line};
-use crate::needed::{SCRIPT_BYTES, read_table, read_text};
-use crate::status::{BadKind, Status, table_status};
+use crate::lines::{limit_line, missing_line, script_line, unreadable_line};
+use crate::matrices::read_matrix;
+use crate::needed::{SCRIPT_BYTES, read_text};
+use crate::status::{BadKind, Status};
 use crate::table::Table;
 use crate::unfinished::Unfinished;
 use crate::unread::{TooLong, Unread};
 use cla_check::{Checked, Shape, ShapeFault, check};
 use cla_io::Files;
-use cla_mtx::MtxFault;
 use cla_num::{Memory, Number};
 use cla_script::{Place, Script, ScriptFault, Statement, clash, parse};
 use std::alloc::Global;
@@ -37,29 +37,31 @@ pub(crate) struct Inputs<N: Number> {
 }
 
 /// The script of this name and its tables, where all checks pass: those of its text, then each table
-/// in the order of its reads, then its shapes, and whether all of its statements run today.
+/// in the order of its reads, with its budget, then its shapes, and whether all of its statements run
+/// today.
 pub(crate) fn read_inputs<N: Number, F: Files>(
     alloc: Global,
     files: &mut F,
     name: &str,
+    budget: u64,
 ) -> Result<Inputs<N>, Unfinished>
     requires bits { IsSupported N.BITS }
     requires idle { (F.state files.old).writing ≡ None }
     ensures frame { OnlyReads (F.state files.old) (F.state files.new) }
     ensures ending { HasEnding (F.state files.old) (F.state files.new) 0 0 result }
     ensures needed { (told : Told) → (F.state files.old).told ≡ Some told →
-        IsNeeded (script_outcome N.BITS told name.now).needed (F.state files.new).reading }
+        IsNeeded (script_outcome N.BITS budget told name.now).needed (F.state files.new).reading }
     ensures reads { (told : Told) → (F.state files.old).told ≡ Some told → Lets
         (λ inputs. statements_outcome N.BITS
         (statements_of N.value (script_of inputs.checked).statements.items) inputs.tables.items)
-        (script_outcome N.BITS told name.now) result }
+        (script_outcome N.BITS budget told name.now) result }
     ensures few { IfOk result (λ inputs. length (script_of inputs.checked).statements.items < 2 ^ 32) }
 {
     let script: Script<N> = match read_script(alloc, files, name) {
         Ok(script) => script,
         Err(unfinished) => return Err(unfinished),
     };
-    let tables = match read_tables(alloc, files, &script.statements) {
+    let tables = match read_tables(alloc, files, &script.statements, budget) {
         Ok(tables) => tables,
         Err(unfinished) => return Err(unfinished),
     };
@@ -80,9 +82,9 @@ fn read_script<N: Number, F: Files>(
     ensures frame { OnlyReads (F.state files.old) (F.state files.new) }
     ensures ending { HasEnding (F.state files.old) (F.state files.new) 0 0 result }
     ensures no_other { ReadsNoOther name.now (F.state files.new).reading }
-    ensures reads { (told : Told) → (F.state files.old).told ≡ Some told →
-        Lets (λ s. reads_outcome N.BITS told (statements_of N.value s.statements.items))
-        (script_outcome N.BITS told name.now) result }
+    ensures reads { (told : Told) (budget : ℕ) → (F.state files.old).told ≡ Some told →
+        Lets (λ s. reads_outcome N.BITS budget told (statements_of N.value s.statements.items))
+        (script_outcome N.BITS budget told name.now) result }
     ensures few { IfOk result (λ s. length s.statements.items < 2 ^ 32) }
     ensures formed { IfOk result (λ s. AllFormed (statements_of N.value s.statements.items)) }
 {
@@ -135,23 +137,24 @@ fn read_tables<N: Number, F: Files>(
     alloc: Global,
     files: &mut F,
     statements: &[Statement<N>],
+    budget: u64,
 ) -> Result<Vec<Table<N>>, Unfinished>
     requires bits { IsSupported N.BITS }
     requires idle { (F.state files.old).writing ≡ None }
     ensures frame { OnlyReads (F.state files.old) (F.state files.new) }
     ensures ending { HasEnding (F.state files.old) (F.state files.new) 0 0 result }
     ensures needed { (told : Told) (next : List Matrix → Outcome) → (F.state files.old).told ≡ Some told →
-        ReadsOnly (with_tables N.BITS told (files_read (statements_of N.value statements.now)) next).needed
+        ReadsOnly (with_tables N.BITS budget told (files_read (statements_of N.value statements.now)) next).needed
         (F.state files.old).reading (F.state files.new).reading }
     ensures reads { (told : Told) (next : List Matrix → Outcome) → (F.state files.old).told ≡ Some told →
         Lets (λ tables. next tables.items)
-        (with_tables N.BITS told (files_read (statements_of N.value statements.now)) next) result }
+        (with_tables N.BITS budget told (files_read (statements_of N.value statements.now)) next) result }
     ensures one_each { IfOk result (λ tables. length tables.items ≡ reads_in (statements_of N.value statements.now)) }
 {
     let mut tables = Vec::new(alloc);
     for statement in statements {
         if let Statement::Read { file, .. } = statement {
-            let table = match one_table(alloc, files, file.as_str()) {
+            let table = match one_table(alloc, files, file.as_str(), budget) {
                 Ok(table) => table,
                 Err(unfinished) => return Err(unfinished),
             };
@@ -168,6 +171,7 @@ fn one_table<N: Number, F: Files>(
     alloc: Global,
     files: &mut F,
     name: &str,
+    budget: u64,
 ) -> Result<Table<N>, Unfinished>
     requires bits { IsSupported N.BITS }
     requires idle { (F.state files.old).writing ≡ None }
@@ -175,14 +179,14 @@ fn one_table<N: Number, F: Files>(
     ensures ending { HasEnding (F.state files.old) (F.state files.new) 0 0 result }
     ensures no_other { ReadsNoOther name.now (F.state files.new).reading }
     ensures reads { (told : Told) (next : Matrix → Outcome) → (F.state files.old).told ≡ Some told →
-        Lets next (with_table N.BITS told name.now next) result }
+        Lets next (with_table N.BITS budget told name.now next) result }
 {
-    match read_table(alloc, files, name) {
+    match read_matrix(alloc, files, name, budget) {
         Ok(m) => match Table::of(alloc, m) {
             Ok(table) => Ok(table),
             Err(_) => Err(Unfinished::Memory),
         },
-        Err(unread) => Err(tell_table(alloc, name, unread)),
+        Err(unfinished) => Err(unfinished),
     }
 }
 
@@ -237,20 +241,6 @@ fn tell_text(alloc: Global, name: &str, unread: Unread<TooLong>) -> Unfinished
         Unread::Memory => Unfinished::Memory,
         Unread::Refused(TooLong) => {
             Unfinished::by_refusal(Status::Limit, limit_line(alloc, name, SCRIPT_BYTES))
-        }
-    }
-}
-
-// Why the table of this name isn't read.
-fn tell_table(alloc: Global, name: &str, unread: Unread<MtxFault>) -> Unfinished
-    ensures { TellsUnread (table_refusal name.now) name.now unread result }
-{
-    match unread {
-        Unread::Missing => Unfinished::by_refusal(Status::Missing, missing_line(alloc, name)),
-        Unread::Fault => Unfinished::by_read_fault(unreadable_line(alloc, name)),
-        Unread::Memory => Unfinished::Memory,
-        Unread::Refused(fault) => {
-            Unfinished::by_refusal(table_status(fault), table_line(alloc, name, fault))
         }
     }
 }

@@ -5,13 +5,13 @@ mod built;
 mod evaluate;
 mod inputs;
 mod lines;
+mod matrices;
 mod names;
 mod needed;
 mod statements;
+mod stats;
 mod status;
 mod table;
-#[cfg(test)]
-mod tests;
 mod top;
 mod unfinished;
 mod unread;

@@ -3,7 +3,7 @@
 ghost use Rattle.std.specs.Prelude.{◌≡◌, ◌++◌, IfOk, OnOk, codes, pos};
 ghost use Rattle.cla_spec.specs.Numbers.{decimal_of};
 ghost use Rattle.cla_market.specs.declared.fault.MtxFault.TheVariants as mtx;
-ghost use Rattle.cla_cli.specs.Texts.{missing_line, unreadable_line, more_bytes_text, limit_line, script_line, bad_line_text, table_fault_text, table_word, table_line, bad_kind_text, script_kind_text, shape_kind_text, operator_line, reason_text};
+ghost use Rattle.cla_cli.specs.Texts.{missing_line, unreadable_line, more_bytes_text, limit_line, script_line, bad_line_text, table_fault_text, table_word, table_line, bad_kind_text, script_kind_text, shape_kind_text, operator_line, reason_text, budget_line};
 
 use crate::needed::TABLE_BYTES;
 use crate::status::BadKind;
@@ -81,6 +81,23 @@ pub(crate) fn operator_line(alloc: Global, place: Place, fault: &OpFault) -> Res
     Ok(line)
 }
 
+/// The line that tells that a table takes more bytes than its budget.
+pub(crate) fn budget_line(
+    alloc: Global,
+    name: &str,
+    needed: u64,
+    budget: u64,
+) -> Result<Text, Memory>
+    ensures { IfOk result (λ line. line ≡ budget_line name.now needed budget) }
+{
+    let mut line = line_of(alloc, b"budget ", name, b": needs ")?;
+    line.push_int(i128::from(needed))?;
+    line.push(b", has ")?;
+    line.push_int(i128::from(budget))?;
+    line.push(b"\n")?;
+    Ok(line)
+}
+
 // A line that names a file.
 fn line_of(alloc: Global, before: &[u8], name: &str, behind: &[u8]) -> Result<Text, Memory>
     ensures { IfOk result (λ line. line ≡ before.now ++ name.now ++ behind.now) }
@@ -148,7 +165,8 @@ fn push_more_bytes(line: &mut Text, limit: u64) -> Result<(), Memory>
     line.push(b" bytes")
 }
 
-fn push_numbered(line: &mut Text, words: &[u8], n: u64) -> Result<(), Memory>
+/// Appends words and a number.
+pub(crate) fn push_numbered(line: &mut Text, words: &[u8], n: u64) -> Result<(), Memory>
     ensures { OnOk result (line.new ≡ line.old ++ (words.now ++ decimal_of (pos n))) }
 {
     line.push(words)?;

@@ -6,14 +6,14 @@ ghost use Rattle.cla_num.specs.Bits.{IsSupported};
 ghost use Rattle.cla_num.specs.Counts.{AreBelow, run_bound};
 ghost use Rattle.cla_script.specs.Reads.{statements_of};
 ghost use Rattle.cla_script.specs.View.{tree_of};
-ghost use Rattle.cla_cli.specs.Statements.{Trace, value_of, work_of, then_prints, trace_of, script_work};
+ghost use Rattle.cla_cli.specs.Statements.{Trace, printing, value_of, work_of, then_prints, trace_of, script_work};
 ghost use Rattle.cla_cli.specs.Evaluate.{CountsTo, FewMore, statement_most, statement_bound};
 ghost use Rattle.cla_cli.specs.Runs.{Runs, GoesOn, HasHaltCause, halted_by};
 
 use crate::evaluate::{Failed, call_value};
 use crate::names::{Assigned, table_of};
 use crate::table::Table;
-use cla_io::{Sink, Stop};
+use cla_io::{Sink, Stop, put_all};
 use cla_num::{Meter, Number, OpFault};
 use cla_print::print_number;
 use cla_script::{Expr, Place, Statement};
@@ -109,6 +109,17 @@ fn print_value<N: Number, O: Sink>(
         | Expr::Bind { .. }
         | Expr::Slice { .. } => Ok(()),
     }
+}
+
+/// Prints a text that is all that a command prints.
+pub(crate) fn put_text<O: Sink>(text: &[u8], out: &mut O) -> Result<(), Halted>
+    ensures runs { (told : Told) → Runs told (printing text.now) (O.told out.old) (O.told out.new) result }
+    ensures cause { HasHaltCause (O.faults out.old) (O.faults out.new) result }
+    ensures later { O.faults out.old ≤ O.faults out.new }
+    ensures steady { O.steady out.new ≡ O.steady out.old }
+    ensures kept { O.kept out.old out.new }
+{
+    halted_by(put_all(out, text))
 }
 
 // What a call that prints answers, as the statements end by it.

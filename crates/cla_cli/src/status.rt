@@ -33,6 +33,8 @@ pub enum Status {
     Limit,
     /// An operator has a cell out of range: the operator's place, and its first such cell.
     Operator { place: Place, fault: OpFault },
+    /// A table takes more bytes than its budget, as a packed file of its cut would.
+    OverBudget { needed: u64, budget: u64 },
 }
 
 /// Why a script is refused: its text, its shapes, or a statement that doesn't run yet.
@@ -77,5 +79,9 @@ pub fn code(s: &Status) -> u8
         Status::BadFile { fault: _ } => 7,
         Status::Limit => 8,
         Status::Operator { place: _, fault: _ } => 9,
+        Status::OverBudget {
+            needed: _,
+            budget: _,
+        } => 10,
     }
 }

@@ -4,28 +4,33 @@ ghost use Rattle.std.specs.Prelude.{◌≡◌, ◌⊎◌, ◌≤◌, map, string
 ghost use Rattle.cla_num.specs.Bits.{IsSupported};
 ghost use Rattle.cla_num.specs.Counts.{AreBelow, run_bound};
 ghost use Rattle.cla_io.specs.Reads.{OnlyReads};
-ghost use Rattle.cla_cli.specs.Words.{accepted_command};
+ghost use Rattle.cla_cli.specs.Words.{accepted_command, command_of};
+ghost use Rattle.cla_cli.specs.Outcome.{command_outcome, script_outcome, stats_outcome};
 ghost use Rattle.cla_cli.specs.Run.{ending_of, FaultsCome, MissesCome, EndsWhereTold, Completes, CountsWhereTold, ReadsOnlyNeeded, Keeps, written};
 ghost use Rattle.cla_cli.specs.Parts.{ComesWhereTold, HasEnding, HasCountsWhereTold, IsNeededWhereTold, TellsHalt, Tells, TellsLine};
 
 use crate::inputs::{Inputs, read_inputs};
 use crate::lines::operator_line;
-use crate::statements::{Halted, run_statements};
+use crate::matrices::read_matrix;
+use crate::statements::{Halted, put_text, run_statements};
+use crate::stats::stats_text;
 use crate::status::Status;
 use crate::unfinished::Unfinished;
-use crate::words::accepted;
+use crate::words::{Command, MOST_BUDGET, accepted, budget_or_most};
 use cla_io::{Files, Sink, Stop, put_all};
-use cla_num::{Meter, Number};
+use cla_num::{Dense, Meter, Number};
 use std::alloc::Global;
 
 /// Does all that the program does on these words, the command line's after the program's name.
 ///
-/// Today they are `run SCRIPT`. The script reads tables, and prints numbers, tables, their sums, the
-/// sums of their products with a number, and how many rows and columns they have. The checks come in
-/// this order, and the first refusal decides: the words, the script's text, each table in the order
-/// of its reads, the shapes; then each statement is evaluated and printed in turn. What it comes to
-/// is `outcome_of` the words and of what the files hold, unless memory is wanting or a file, the
-/// output or standard error fails. A line on standard error tells why a command isn't done.
+/// Today they are `run SCRIPT`, with `--budget N` or `--budget=N` before or behind the script, and
+/// `stats TABLE`. A script reads tables, and prints numbers, tables, their sums, the sums of their
+/// products with a number, and how many rows and columns they have. The checks come in this order, and
+/// the first refusal decides: the words, the script's text, each table in the order of its reads, with
+/// the bytes of its cut against the budget, the shapes; then each statement is evaluated and printed in
+/// turn. `stats` reads its table by the same checks and prints how it is grouped. What the words come to
+/// is `outcome_of` them and of what the files hold, unless memory is wanting or a file, the output or
+/// standard error fails. A line on standard error tells why a command isn't done.
 pub fn run<N: Number, F: Files, O: Sink, E: Sink>(
     alloc: Global,
     words: &[String],
@@ -64,19 +69,19 @@ pub fn run<N: Number, F: Files, O: Sink, E: Sink>(
     ensures err_steady { E.steady err.new ≡ E.steady err.old }
     ensures err_kept { E.kept err.old err.new }
 {
-    let Some(script) = accepted(words) else {
+    let Some(command) = accepted(words) else {
         return tell_line(err, b"usage: cla COMMAND WORDS\n", Status::Usage);
     };
-    match run_script::<N, F, O>(alloc, script, files, out, meter) {
+    match run_command::<N, F, O>(alloc, command, files, out, meter) {
         Ok(()) => Status::Done,
         Err(unfinished) => tell(err, unfinished),
     }
 }
 
-// Runs the script of this name.
-fn run_script<N: Number, F: Files, O: Sink>(
+// Does what the words ask for.
+fn run_command<N: Number, F: Files, O: Sink>(
     alloc: Global,
-    name: &str,
+    command: Command<'_>,
     files: &mut F,
     out: &mut O,
     meter: &mut Meter,
@@ -84,23 +89,92 @@ fn run_script<N: Number, F: Files, O: Sink>(
     requires bits { IsSupported N.BITS }
     requires room { AreBelow run_bound meter.old }
     requires idle { (F.state files.old).writing ≡ None }
-    ensures comes { ComesWhereTold N.BITS name.now
+    ensures comes { ComesWhereTold (λ told. command_outcome N.BITS told (command_of command.entry))
         (F.state files.old).told (F.state files.new).told (F.state files.old) (F.state files.new)
         (written (O.told out.old) (O.faults out.old)) (written (O.told out.new) (O.faults out.new)) result }
     ensures ending { HasEnding (F.state files.old) (F.state files.new) (O.faults out.old) (O.faults out.new) result }
-    ensures counts { HasCountsWhereTold N.BITS name.now (F.state files.old).told meter.old meter.new result }
-    ensures needed { IsNeededWhereTold N.BITS name.now (F.state files.old).told (F.state files.new).reading }
+    ensures counts { HasCountsWhereTold (λ told. command_outcome N.BITS told (command_of command.entry))
+        (F.state files.old).told meter.old meter.new result }
+    ensures needed { IsNeededWhereTold (λ told. command_outcome N.BITS told (command_of command.entry))
+        (F.state files.old).told (F.state files.new).reading }
     ensures frame { OnlyReads (F.state files.old) (F.state files.new) }
     ensures later { O.faults out.old ≤ O.faults out.new }
     ensures steady { O.steady out.new ≡ O.steady out.old }
     ensures kept { O.kept out.old out.new }
 {
-    let inputs: Inputs<N> = match read_inputs(alloc, files, name) {
+    match command {
+        Command::Run { script, budget } => {
+            let budget = budget_or_most(budget);
+            run_script::<N, F, O>(alloc, script, budget, files, out, meter)
+        }
+        Command::Stats { table } => print_stats::<N, F, O>(alloc, table, files, out),
+    }
+}
+
+// Runs the script of this name, whose tables are not to take more bytes than the budget.
+fn run_script<N: Number, F: Files, O: Sink>(
+    alloc: Global,
+    name: &str,
+    budget: u64,
+    files: &mut F,
+    out: &mut O,
+    meter: &mut Meter,
+) -> Result<(), Unfinished>
+    requires bits { IsSupported N.BITS }
+    requires room { AreBelow run_bound meter.old }
+    requires idle { (F.state files.old).writing ≡ None }
+    ensures comes { ComesWhereTold (λ told. script_outcome N.BITS budget told name.now)
+        (F.state files.old).told (F.state files.new).told (F.state files.old) (F.state files.new)
+        (written (O.told out.old) (O.faults out.old)) (written (O.told out.new) (O.faults out.new)) result }
+    ensures ending { HasEnding (F.state files.old) (F.state files.new) (O.faults out.old) (O.faults out.new) result }
+    ensures counts { HasCountsWhereTold (λ told. script_outcome N.BITS budget told name.now)
+        (F.state files.old).told meter.old meter.new result }
+    ensures needed { IsNeededWhereTold (λ told. script_outcome N.BITS budget told name.now)
+        (F.state files.old).told (F.state files.new).reading }
+    ensures frame { OnlyReads (F.state files.old) (F.state files.new) }
+    ensures later { O.faults out.old ≤ O.faults out.new }
+    ensures steady { O.steady out.new ≡ O.steady out.old }
+    ensures kept { O.kept out.old out.new }
+{
+    let inputs: Inputs<N> = match read_inputs(alloc, files, name, budget) {
         Ok(inputs) => inputs,
         Err(unfinished) => return Err(unfinished),
     };
     let statements = &inputs.checked.script().statements;
     match run_statements(alloc, statements, &inputs.tables, out, meter) {
+        Ok(()) => Ok(()),
+        Err(halted) => Err(tell_halt(alloc, halted)),
+    }
+}
+
+// Prints how the table of this name is grouped.
+fn print_stats<N: Number, F: Files, O: Sink>(
+    alloc: Global,
+    name: &str,
+    files: &mut F,
+    out: &mut O,
+) -> Result<(), Unfinished>
+    requires bits { IsSupported N.BITS }
+    requires idle { (F.state files.old).writing ≡ None }
+    ensures comes { ComesWhereTold (λ told. stats_outcome N.BITS told name.now)
+        (F.state files.old).told (F.state files.new).told (F.state files.old) (F.state files.new)
+        (written (O.told out.old) (O.faults out.old)) (written (O.told out.new) (O.faults out.new)) result }
+    ensures ending { HasEnding (F.state files.old) (F.state files.new) (O.faults out.old) (O.faults out.new) result }
+    ensures needed { IsNeededWhereTold (λ told. stats_outcome N.BITS told name.now)
+        (F.state files.old).told (F.state files.new).reading }
+    ensures frame { OnlyReads (F.state files.old) (F.state files.new) }
+    ensures later { O.faults out.old ≤ O.faults out.new }
+    ensures steady { O.steady out.new ≡ O.steady out.old }
+    ensures kept { O.kept out.old out.new }
+{
+    let m: Dense<N> = match read_matrix(alloc, files, name, MOST_BUDGET) {
+        Ok(m) => m,
+        Err(unfinished) => return Err(unfinished),
+    };
+    let Ok(text) = stats_text(alloc, &m) else {
+        return Err(Unfinished::Memory);
+    };
+    match put_text(text.bytes(), out) {
         Ok(()) => Ok(()),
         Err(halted) => Err(tell_halt(alloc, halted)),
     }

@@ -19,9 +19,10 @@ invariant-loop-statement g l = record {
   one_each : length l.tables.items + reads_in (statements_of g.N.Number.value (drop l.statement-index l.statements))
       ≡ reads_in (statements_of g.N.Number.value l.statements);
   needed : (told : Told) (next : List Matrix → Outcome) → (g.F.Files.state l.fn.files).told ≡ Some told →
-      ReadsOnly (with_tables g.N.Number.BITS told (files_read (statements_of g.N.Number.value l.statements)) next).needed
+      ReadsOnly (with_tables g.N.Number.BITS l.budget told (files_read (statements_of g.N.Number.value l.statements))
+      next).needed
       (g.F.Files.state l.fn.files).reading (g.F.Files.state l.files).reading;
   reached : (told : Told) (next : List Matrix → Outcome) → (g.F.Files.state l.fn.files).told ≡ Some told →
-      ReachesRest g.N.Number.BITS told (files_read (statements_of g.N.Number.value l.statements))
+      ReachesRest g.N.Number.BITS l.budget told (files_read (statements_of g.N.Number.value l.statements))
       (files_read (statements_of g.N.Number.value (drop l.statement-index l.statements))) l.tables.items next;
 }

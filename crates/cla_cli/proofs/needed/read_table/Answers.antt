@@ -9,6 +9,7 @@ returns-in-Ok-read_mtx-clause-reads g c =
     let opened = g.F.Files.state c.open.new.files in
     let new = c.read_mtx.new.input in
     let made = c.in-Ok-new.ensures in
-    table_read g.N.Number.BITS old.told opened.told opened.reading c.args.name.now c.in-Ok-read_mtx.m c.in-Ok-new.input.taken
+    table_read g.N.Number.BITS old.told opened.told opened.reading c.args.name.now c.in-Ok-read_mtx.m
+    c.in-Ok-new.input.taken
     (ahead_of new.taken (left (g.F.Files.state new.files.now)))
     c.open.ensures.frame.told c.in-Ok.ensures.opens made.nothing_taken (rw made.same at c.in-Ok-read_mtx.ensures.reads)

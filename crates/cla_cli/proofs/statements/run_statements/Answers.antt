@@ -34,10 +34,14 @@ returns-in-Err-clause-runs g c = λ told.
     let i = c.loop-statement.statement-index in
     let names = c.loop-statement.names.items in
     let tables = c.loop-statement.tables.now in
-    let left = left_at statements i c.statement-item.result (Print c.in-Print.value) c.loop-statement-test.true c.statement-item.is c.in-Print.is in
+    let left = left_at statements i c.statement-item.result (Print c.in-Print.value) c.loop-statement-test.true
+    c.statement-item.is c.in-Print.is in
     let rest = trace_of bits names (statements_of view (drop (i + 1) statements)) tables in
     let out' = g.O.Sink.told c.print_value.new.out in
-    let prints = subst (λ names'. Runs {U = Unit {0}} told (then_prints (value_of bits names' (tree_of view c.in-Print.value)) rest) (g.O.Sink.told c.loop-statement.out) out' (Err c.in-Err.halted))
+    let prints =
+    subst
+    (λ names'. Runs {U = Unit {0}} told (then_prints (value_of bits names' (tree_of view c.in-Print.value)) rest)
+    (g.O.Sink.told c.loop-statement.out) out' (Err c.in-Err.halted))
     c.deref.ensures.value (c.in-Err.ensures.prints told rest) in
     c.loop-statement.invariant.runs told out' (Err c.in-Err.halted)
     (subst (λ trace. Runs {U = Unit {0}} told trace (g.O.Sink.told c.loop-statement.out) out' (Err c.in-Err.halted))
@@ -50,14 +54,18 @@ returns-in-Err-clause-counts g c =
     let i = c.loop-statement.statement-index in
     let names = c.loop-statement.names.items in
     let tables = c.loop-statement.tables.now in
-    let left = left_at statements i c.statement-item.result (Print c.in-Print.value) c.loop-statement-test.true c.statement-item.is c.in-Print.is in
+    let left = left_at statements i c.statement-item.result (Print c.in-Print.value) c.loop-statement-test.true
+    c.statement-item.is c.in-Print.is in
     let now = c.print_value.new.meter in
-    let counts = subst (λ names'. RiseByAtMost (work_of names' (tree_of view c.in-Print.value)) c.loop-statement.meter now) c.deref.ensures.value
+    let counts =
+    subst (λ names'. RiseByAtMost (work_of names' (tree_of view c.in-Print.value)) c.loop-statement.meter now)
+    c.deref.ensures.value
     c.in-Err.ensures.counts in
     c.loop-statement.invariant.counts now (Err c.in-Err.halted)
     (subst (λ work. CountsTo {T = Unit {0}} {E = Halted} work c.loop-statement.meter now (Err c.in-Err.halted))
     (sym (ap (λ xs. script_work names (statements_of view xs) tables) left))
-    (counted_last (work_of names (tree_of view c.in-Print.value)) (script_work names (statements_of view (drop (i + 1) statements)) tables)
+    (counted_last (work_of names (tree_of view c.in-Print.value))
+    (script_work names (statements_of view (drop (i + 1) statements)) tables)
     c.loop-statement.meter now counts))
 
 pub returns-in-Err-clause-kept : goal.returns-in-Err-clause-kept
@@ -76,15 +84,18 @@ loop-statement-preserved g c =
     let rest = statements_of view (drop (i + 1) statements) in
     elim c.match-statement.branch [
       | in-Read+in_default w ↦ rw (w.out-is, w.meter-is, w.names-is, w.tables-is)
-          (let left = left_at statements i c.statement-item.result (Read w.in-Read.name w.in-Read.file) c.loop-statement-test.true c.statement-item.is
+          (let left = left_at statements i c.statement-item.result (Read w.in-Read.name w.in-Read.file)
+          c.loop-statement-test.true c.statement-item.is
           w.in-Read.is in
           let empty : tables ≡ [] = nil_from_length tables (omega (arith, w.in_default.len_below)) in
           record {
             runs = λ told end result runs. inv.runs told end result
-                (subst (λ trace. Runs told trace out end result) (sym (ap (λ xs. trace_of bits names (statements_of view xs) tables) left
+                (subst (λ trace. Runs told trace out end result)
+                (sym (ap (λ xs. trace_of bits names (statements_of view xs) tables) left
                 ∙ none_traced bits names w.in-Read.name w.in-Read.file rest tables empty)) runs);
             counts = λ now result counts. inv.counts now result
-                (subst (λ work. CountsTo work c.loop-statement.meter now result) (sym (ap (λ xs. script_work names (statements_of view xs) tables) left
+                (subst (λ work. CountsTo work c.loop-statement.meter now result)
+                (sym (ap (λ xs. script_work names (statements_of view xs) tables) left
                 ∙ none_worked names w.in-Read.name w.in-Read.file rest tables empty)) counts);
             few = few_same i statement_most c.args.meter.now c.loop-statement.meter inv.few;
             no_fault = inv.no_fault;
@@ -92,22 +103,27 @@ loop-statement-preserved g c =
             kept = inv.kept;
           })
       | in-Read+in-len1-up+else-is_err w ↦ rw (w.out-is, w.meter-is, w.names-is)
-          (let left = left_at statements i c.statement-item.result (Read w.in-Read.name w.in-Read.file) c.loop-statement-test.true c.statement-item.is
+          (let left = left_at statements i c.statement-item.result (Read w.in-Read.name w.in-Read.file)
+          c.loop-statement-test.true c.statement-item.is
           w.in-Read.is in
           let below : 0 < length tables = omega (arith, w.in-len1-up.len_at_least) in
           let others : c.match-statement.tables.now ≡ drop 1 tables = ap (λ t. t.now) w.tables-is
           ∙ take_all (length tables - 1) (drop 1 tables) (omega (arith, length-drop 1 tables)) in
           let next : tables ≡ w.table-item.result ∷ c.match-statement.tables.now =
-          left_at tables 0 w.table-item.result w.table-item.result below w.table-item.is refl ∙ ap (λ ms. w.table-item.result ∷ ms) (sym others) in
+          left_at tables 0 w.table-item.result w.table-item.result below w.table-item.is refl
+          ∙ ap (λ ms. w.table-item.result ∷ ms) (sym others) in
           let named : w.push.new.self.items ≡ with_name names w.in-Read.name w.table-item.result =
           rw (w.if-is_err.ensures.negation, w.new.ensures) at w.push.ensures.items in
           record {
             runs = λ told end result runs. inv.runs told end result
-                (subst (λ trace. Runs told trace out end result) (sym (ap (λ xs. trace_of bits names (statements_of view xs) tables) left
-                ∙ one_traced bits names w.push.new.self.items w.in-Read.name w.in-Read.file rest w.table-item.result tables
+                (subst (λ trace. Runs told trace out end result)
+                (sym (ap (λ xs. trace_of bits names (statements_of view xs) tables) left
+                ∙ one_traced bits names w.push.new.self.items w.in-Read.name w.in-Read.file rest w.table-item.result
+                tables
                 c.match-statement.tables.now named next)) runs);
             counts = λ now result counts. inv.counts now result
-                (subst (λ work. CountsTo work c.loop-statement.meter now result) (sym (ap (λ xs. script_work names (statements_of view xs) tables) left
+                (subst (λ work. CountsTo work c.loop-statement.meter now result)
+                (sym (ap (λ xs. script_work names (statements_of view xs) tables) left
                 ∙ one_worked names w.push.new.self.items w.in-Read.name w.in-Read.file rest w.table-item.result tables
                 c.match-statement.tables.now named next)) counts);
             few = few_same i statement_most c.args.meter.now c.loop-statement.meter inv.few;
@@ -116,27 +132,38 @@ loop-statement-preserved g c =
             kept = inv.kept;
           })
       | in-Print+in-Ok w ↦ rw (w.out-is, w.meter-is, w.names-is, w.tables-is)
-          (let left = left_at statements i c.statement-item.result (Print w.in-Print.value) c.loop-statement-test.true c.statement-item.is w.in-Print.is in
+          (let left = left_at statements i c.statement-item.result (Print w.in-Print.value) c.loop-statement-test.true
+          c.statement-item.is w.in-Print.is in
           record {
             runs = λ told end result runs. inv.runs told end result
-                (subst (λ trace. Runs told trace out end result) (sym (ap (λ xs. trace_of bits names (statements_of view xs) tables) left))
-                (subst (λ names'. Runs told (then_prints (value_of bits names' (tree_of view w.in-Print.value)) (trace_of bits names rest tables)) out end result)
+                (subst (λ trace. Runs told trace out end result)
+                (sym (ap (λ xs. trace_of bits names (statements_of view xs) tables) left))
+                (subst
+                (λ names'. Runs told (then_prints (value_of bits names' (tree_of view w.in-Print.value))
+                (trace_of bits names rest tables)) out end result)
                 w.deref.ensures.value (w.in-Ok.ensures.prints told (trace_of bits names rest tables) end result runs)));
             counts = λ now result counts. inv.counts now result
-                (subst (λ work. CountsTo work c.loop-statement.meter now result) (sym (ap (λ xs. script_work names (statements_of view xs) tables) left))
-                (counted_on (work_of names (tree_of view w.in-Print.value)) (script_work names rest tables) c.loop-statement.meter
+                (subst (λ work. CountsTo work c.loop-statement.meter now result)
+                (sym (ap (λ xs. script_work names (statements_of view xs) tables) left))
+                (counted_on (work_of names (tree_of view w.in-Print.value)) (script_work names rest tables)
+                c.loop-statement.meter
                 w.print_value.new.meter now result
-                (subst (λ names'. RiseBy (work_of names' (tree_of view w.in-Print.value)) c.loop-statement.meter w.print_value.new.meter)
+                (subst (λ names'. RiseBy (work_of names' (tree_of view w.in-Print.value)) c.loop-statement.meter
+                w.print_value.new.meter)
                 w.deref.ensures.value w.in-Ok.ensures.counts) counts));
-            few = few_more i statement_most c.args.meter.now c.loop-statement.meter w.print_value.new.meter inv.few w.in-Ok.ensures.few;
+            few = few_more i statement_most c.args.meter.now c.loop-statement.meter w.print_value.new.meter inv.few
+                w.in-Ok.ensures.few;
             no_fault = w.in-Ok.ensures.cause ∙ inv.no_fault;
             steady = w.in-Ok.ensures.steady ∙ inv.steady;
             kept = g.met.O.Sink.kept_on _ _ _ inv.kept w.in-Ok.ensures.kept;
           })
       | in-Let-1 w ↦ rw (w.out-is, w.meter-is, w.names-is, w.tables-is)
-          (let left = left_at statements i c.statement-item.result c.statement-item.result c.loop-statement-test.true c.statement-item.is refl in
-          let traced : trace_of bits names (statement_of view c.statement-item.result ∷ rest) tables ≡ trace_of bits names rest tables = search rules in
-          let worked : script_work names (statement_of view c.statement-item.result ∷ rest) tables ≡ script_work names rest tables = search rules in
+          (let left = left_at statements i c.statement-item.result c.statement-item.result c.loop-statement-test.true
+          c.statement-item.is refl in
+          let traced : trace_of bits names (statement_of view c.statement-item.result ∷ rest) tables
+          ≡ trace_of bits names rest tables = search rules in
+          let worked : script_work names (statement_of view c.statement-item.result ∷ rest) tables
+          ≡ script_work names rest tables = search rules in
           record {
             runs = λ told end result runs. inv.runs told end result
                 (subst (λ trace. Runs told trace out end result)
@@ -150,9 +177,12 @@ loop-statement-preserved g c =
             kept = inv.kept;
           })
       | in-Write-1 w ↦ rw (w.out-is, w.meter-is, w.names-is, w.tables-is)
-          (let left = left_at statements i c.statement-item.result c.statement-item.result c.loop-statement-test.true c.statement-item.is refl in
-          let traced : trace_of bits names (statement_of view c.statement-item.result ∷ rest) tables ≡ trace_of bits names rest tables = search rules in
-          let worked : script_work names (statement_of view c.statement-item.result ∷ rest) tables ≡ script_work names rest tables = search rules in
+          (let left = left_at statements i c.statement-item.result c.statement-item.result c.loop-statement-test.true
+          c.statement-item.is refl in
+          let traced : trace_of bits names (statement_of view c.statement-item.result ∷ rest) tables
+          ≡ trace_of bits names rest tables = search rules in
+          let worked : script_work names (statement_of view c.statement-item.result ∷ rest) tables
+          ≡ script_work names rest tables = search rules in
           record {
             runs = λ told end result runs. inv.runs told end result
                 (subst (λ trace. Runs told trace out end result)
@@ -166,9 +196,12 @@ loop-statement-preserved g c =
             kept = inv.kept;
           })
       | in-Pack-1 w ↦ rw (w.out-is, w.meter-is, w.names-is, w.tables-is)
-          (let left = left_at statements i c.statement-item.result c.statement-item.result c.loop-statement-test.true c.statement-item.is refl in
-          let traced : trace_of bits names (statement_of view c.statement-item.result ∷ rest) tables ≡ trace_of bits names rest tables = search rules in
-          let worked : script_work names (statement_of view c.statement-item.result ∷ rest) tables ≡ script_work names rest tables = search rules in
+          (let left = left_at statements i c.statement-item.result c.statement-item.result c.loop-statement-test.true
+          c.statement-item.is refl in
+          let traced : trace_of bits names (statement_of view c.statement-item.result ∷ rest) tables
+          ≡ trace_of bits names rest tables = search rules in
+          let worked : script_work names (statement_of view c.statement-item.result ∷ rest) tables
+          ≡ script_work names rest tables = search rules in
           record {
             runs = λ told end result runs. inv.runs told end result
                 (subst (λ trace. Runs told trace out end result)
@@ -191,7 +224,9 @@ returns-clause-runs g c = λ told.
     let end : length statements ≤ i = omega (arith, c.loop-statement-test.false) in
     c.loop-statement.invariant.runs told out (Ok (tt {0}))
     (subst (λ trace. Runs {U = Unit {0}} told trace out out (Ok (tt {0})))
-    (sym (ap (λ xs. trace_of g.N.Number.BITS c.loop-statement.names.items (statements_of g.N.Number.value xs) c.loop-statement.tables.now)
+    (sym
+    (ap (λ xs. trace_of g.N.Number.BITS c.loop-statement.names.items (statements_of g.N.Number.value xs)
+    c.loop-statement.tables.now)
     (drop_all i statements end))) (nothing_left told out))
 
 pub returns-clause-counts : goal.returns-clause-counts
@@ -200,6 +235,9 @@ returns-clause-counts g c =
     let i = c.loop-statement.statement-index in
     let end : length statements ≤ i = omega (arith, c.loop-statement-test.false) in
     c.loop-statement.invariant.counts c.loop-statement.meter (Ok (tt {0}))
-    (subst (λ work. CountsTo {T = Unit {0}} {E = Halted} work c.loop-statement.meter c.loop-statement.meter (Ok (tt {0})))
-    (sym (ap (λ xs. script_work c.loop-statement.names.items (statements_of g.N.Number.value xs) c.loop-statement.tables.now)
+    (subst (λ work. CountsTo {T = Unit {0}} {E = Halted} work c.loop-statement.meter c.loop-statement.meter
+    (Ok (tt {0})))
+    (sym
+    (ap (λ xs. script_work c.loop-statement.names.items (statements_of g.N.Number.value xs)
+    c.loop-statement.tables.now)
     (drop_all i statements end))) (nothing_counted c.loop-statement.meter))

@@ -12,12 +12,15 @@ use Rattle.cla_cli.proofs.statements.run_statements.Given as goal
 abbrev pub invariant-loop-statement : goal.invariant-loop-statement
 invariant-loop-statement g l = record {
   runs : (told : Told) (end : Option (List ℕ)) (result : Result (Unit {0}) Halted) →
-      Runs told (trace_of g.N.Number.BITS l.names.items (statements_of g.N.Number.value (drop l.statement-index l.statements)) l.tables)
+      Runs told
+      (trace_of g.N.Number.BITS l.names.items (statements_of g.N.Number.value (drop l.statement-index l.statements))
+      l.tables)
       (g.O.Sink.told l.out) end result →
       Runs told (trace_of g.N.Number.BITS [] (statements_of g.N.Number.value l.statements) l.fn.tables)
       (g.O.Sink.told l.fn.out) end result;
   counts : (now : Counts) (result : Result (Unit {0}) Halted) →
-      CountsTo (script_work l.names.items (statements_of g.N.Number.value (drop l.statement-index l.statements)) l.tables)
+      CountsTo (script_work l.names.items (statements_of g.N.Number.value (drop l.statement-index l.statements))
+      l.tables)
       l.meter now result →
       CountsTo (script_work [] (statements_of g.N.Number.value l.statements) l.fn.tables) l.fn.meter now result;
   few : FewMore (l.statement-index * statement_most) l.fn.meter l.meter;

@@ -1,5 +1,6 @@
 use Rattle.std.proofs.Common.{map, Global, sym}
 use Rattle.std.specs.Prelude.{string_bytes}
+use Rattle.cla_cli.specs.Words.{command_of}
 use Rattle.cla_cli.specs.Run.{Written}
 use Rattle.cla_cli.specs.Texts.{usage_line}
 use Rattle.cla_cli.proofs.EndLaws.{usage_ends, usage_faults, completes_by, done_ends, done_counts, unfinished_ends, unfinished_counts, unfinished_faults, no_usage, reads_only_needed, not_both}
@@ -12,7 +13,11 @@ returns-in_default-clause-ends g c =
     let old = g.F.Files.state c.args.files.now in
     let out : Written = record { told = g.O.Sink.told c.args.out.now; faults = g.O.Sink.faults c.args.out.now } in
     let err : Written = record { told = g.E.Sink.told c.args.err.now; faults = g.E.Sink.faults c.args.err.now } in
-    let err' : Written = record { told = g.E.Sink.told c.tell_line.new.err; faults = g.E.Sink.faults c.tell_line.new.err } in
+    let err' : Written = record {
+      told = g.E.Sink.told c.tell_line.new.err;
+      faults =
+          g.E.Sink.faults c.tell_line.new.err;
+    } in
     let none = sym (rw c.in_default.is at (c.accepted.ensures bits)) in
     usage_ends bits words old.told old out err err' c.tell_line.result none c.tell_line.ensures.tells
 
@@ -23,7 +28,11 @@ returns-in_default-clause-completes g c =
     let old = g.F.Files.state c.args.files.now in
     let out : Written = record { told = g.O.Sink.told c.args.out.now; faults = g.O.Sink.faults c.args.out.now } in
     let err : Written = record { told = g.E.Sink.told c.args.err.now; faults = g.E.Sink.faults c.args.err.now } in
-    let err' : Written = record { told = g.E.Sink.told c.tell_line.new.err; faults = g.E.Sink.faults c.tell_line.new.err } in
+    let err' : Written = record {
+      told = g.E.Sink.told c.tell_line.new.err;
+      faults =
+          g.E.Sink.faults c.tell_line.new.err;
+    } in
     let none = sym (rw c.in_default.is at (c.accepted.ensures bits)) in
     completes_by bits words old.told old.told old old out out err err' c.tell_line.result
     (usage_ends bits words old.told old out err err' c.tell_line.result none c.tell_line.ensures.tells)
@@ -40,17 +49,23 @@ returns-in-Ok-clause-ends g c =
     let old = g.F.Files.state c.args.files.now in
     let out : Written = record { told = g.O.Sink.told c.args.out.now; faults = g.O.Sink.faults c.args.out.now } in
     let err : Written = record { told = g.E.Sink.told c.args.err.now; faults = g.E.Sink.faults c.args.err.now } in
-    let new = g.F.Files.state c.run_script.new.files in
-    let out' : Written = record { told = g.O.Sink.told c.run_script.new.out; faults = g.O.Sink.faults c.run_script.new.out } in
+    let new = g.F.Files.state c.run_command.new.files in
+    let out' : Written = record {
+      told = g.O.Sink.told c.run_command.new.out;
+      faults =
+          g.O.Sink.faults c.run_command.new.out;
+    } in
     let accepted = sym (rw c.in-Some.is at (c.accepted.ensures bits)) in
-    done_ends bits words c.in-Some.script.now old.told new.told old new out out' err accepted c.in-Ok.ensures.comes
+    done_ends bits words (command_of c.in-Some.command) old.told new.told old new out out' err accepted
+    c.in-Ok.ensures.comes
 
 pub returns-in-Ok-clause-counts : goal.returns-in-Ok-clause-counts
 returns-in-Ok-clause-counts g c =
     let bits = g.N.Number.BITS in
     let words = map (string_bytes {Z = Global}) c.args.words.now in
     let accepted = sym (rw c.in-Some.is at (c.accepted.ensures bits)) in
-    done_counts bits words c.in-Some.script.now (g.F.Files.state c.args.files.now).told c.args.meter.now c.run_script.new.meter accepted
+    done_counts bits words (command_of c.in-Some.command) (g.F.Files.state c.args.files.now).told c.args.meter.now
+    c.run_command.new.meter accepted
     c.in-Ok.ensures.counts
 
 pub returns-in-Ok-clause-unaccepted : goal.returns-in-Ok-clause-unaccepted
@@ -58,22 +73,23 @@ returns-in-Ok-clause-unaccepted g c =
     let bits = g.N.Number.BITS in
     let words = map (string_bytes {Z = Global}) c.args.words.now in
     let accepted = sym (rw c.in-Some.is at (c.accepted.ensures bits)) in
-    λ none. absurd (not_both bits words c.in-Some.script.now accepted none)
+    λ none. absurd (not_both bits words (command_of c.in-Some.command) accepted none)
 
 pub returns-in-Ok-clause-untouched : goal.returns-in-Ok-clause-untouched
 returns-in-Ok-clause-untouched g c =
     let bits = g.N.Number.BITS in
     let words = map (string_bytes {Z = Global}) c.args.words.now in
     let accepted = sym (rw c.in-Some.is at (c.accepted.ensures bits)) in
-    λ none. absurd (not_both bits words c.in-Some.script.now accepted none)
+    λ none. absurd (not_both bits words (command_of c.in-Some.command) accepted none)
 
 pub returns-in-Ok-clause-only_needed : goal.returns-in-Ok-clause-only_needed
 returns-in-Ok-clause-only_needed g c =
     let bits = g.N.Number.BITS in
     let words = map (string_bytes {Z = Global}) c.args.words.now in
     let accepted = sym (rw c.in-Some.is at (c.accepted.ensures bits)) in
-    reads_only_needed bits words c.in-Some.script.now (g.F.Files.state c.args.files.now).told (g.F.Files.state c.args.files.now).reading
-    (g.F.Files.state c.run_script.new.files).reading accepted c.in-Ok.ensures.needed
+    reads_only_needed bits words (command_of c.in-Some.command) (g.F.Files.state c.args.files.now).told
+    (g.F.Files.state c.args.files.now).reading
+    (g.F.Files.state c.run_command.new.files).reading accepted c.in-Ok.ensures.needed
 
 pub returns-in-Err-clause-ends : goal.returns-in-Err-clause-ends
 returns-in-Err-clause-ends g c =
@@ -82,11 +98,16 @@ returns-in-Err-clause-ends g c =
     let old = g.F.Files.state c.args.files.now in
     let out : Written = record { told = g.O.Sink.told c.args.out.now; faults = g.O.Sink.faults c.args.out.now } in
     let err : Written = record { told = g.E.Sink.told c.args.err.now; faults = g.E.Sink.faults c.args.err.now } in
-    let new = g.F.Files.state c.run_script.new.files in
-    let out' : Written = record { told = g.O.Sink.told c.run_script.new.out; faults = g.O.Sink.faults c.run_script.new.out } in
+    let new = g.F.Files.state c.run_command.new.files in
+    let out' : Written = record {
+      told = g.O.Sink.told c.run_command.new.out;
+      faults =
+          g.O.Sink.faults c.run_command.new.out;
+    } in
     let accepted = sym (rw c.in-Some.is at (c.accepted.ensures bits)) in
     let err' : Written = record { told = g.E.Sink.told c.tell.new.err; faults = g.E.Sink.faults c.tell.new.err } in
-    unfinished_ends bits words c.in-Some.script.now old.told new.told old new out out' err err' c.in-Err.unfinished c.tell.result
+    unfinished_ends bits words (command_of c.in-Some.command) old.told new.told old new out out' err err'
+    c.in-Err.unfinished c.tell.result
     accepted c.in-Err.ensures.comes c.in-Err.ensures.ending c.tell.ensures.tells
 
 pub returns-in-Err-clause-counts : goal.returns-in-Err-clause-counts
@@ -96,12 +117,18 @@ returns-in-Err-clause-counts g c =
     let old = g.F.Files.state c.args.files.now in
     let out : Written = record { told = g.O.Sink.told c.args.out.now; faults = g.O.Sink.faults c.args.out.now } in
     let err : Written = record { told = g.E.Sink.told c.args.err.now; faults = g.E.Sink.faults c.args.err.now } in
-    let new = g.F.Files.state c.run_script.new.files in
-    let out' : Written = record { told = g.O.Sink.told c.run_script.new.out; faults = g.O.Sink.faults c.run_script.new.out } in
+    let new = g.F.Files.state c.run_command.new.files in
+    let out' : Written = record {
+      told = g.O.Sink.told c.run_command.new.out;
+      faults =
+          g.O.Sink.faults c.run_command.new.out;
+    } in
     let accepted = sym (rw c.in-Some.is at (c.accepted.ensures bits)) in
     let err' : Written = record { told = g.E.Sink.told c.tell.new.err; faults = g.E.Sink.faults c.tell.new.err } in
-    unfinished_counts bits words c.in-Some.script.now old.told c.args.meter.now c.run_script.new.meter old new out.faults out'.faults
-    err err' c.in-Err.unfinished c.tell.result accepted c.in-Err.ensures.counts c.in-Err.ensures.ending c.tell.ensures.tells
+    unfinished_counts bits words (command_of c.in-Some.command) old.told c.args.meter.now c.run_command.new.meter old
+    new out.faults out'.faults
+    err err' c.in-Err.unfinished c.tell.result accepted c.in-Err.ensures.counts c.in-Err.ensures.ending
+    c.tell.ensures.tells
 
 pub returns-in-Err-clause-completes : goal.returns-in-Err-clause-completes
 returns-in-Err-clause-completes g c =
@@ -110,12 +137,17 @@ returns-in-Err-clause-completes g c =
     let old = g.F.Files.state c.args.files.now in
     let out : Written = record { told = g.O.Sink.told c.args.out.now; faults = g.O.Sink.faults c.args.out.now } in
     let err : Written = record { told = g.E.Sink.told c.args.err.now; faults = g.E.Sink.faults c.args.err.now } in
-    let new = g.F.Files.state c.run_script.new.files in
-    let out' : Written = record { told = g.O.Sink.told c.run_script.new.out; faults = g.O.Sink.faults c.run_script.new.out } in
+    let new = g.F.Files.state c.run_command.new.files in
+    let out' : Written = record {
+      told = g.O.Sink.told c.run_command.new.out;
+      faults =
+          g.O.Sink.faults c.run_command.new.out;
+    } in
     let accepted = sym (rw c.in-Some.is at (c.accepted.ensures bits)) in
     let err' : Written = record { told = g.E.Sink.told c.tell.new.err; faults = g.E.Sink.faults c.tell.new.err } in
     completes_by bits words old.told new.told old new out out' err err' c.tell.result
-    (unfinished_ends bits words c.in-Some.script.now old.told new.told old new out out' err err' c.in-Err.unfinished c.tell.result
+    (unfinished_ends bits words (command_of c.in-Some.command) old.told new.told old new out out' err err'
+    c.in-Err.unfinished c.tell.result
     accepted c.in-Err.ensures.comes c.in-Err.ensures.ending c.tell.ensures.tells)
     (unfinished_faults old new out.faults out'.faults err err' c.in-Err.unfinished c.tell.result c.in-Err.ensures.ending
     c.tell.ensures.tells)
@@ -127,11 +159,16 @@ returns-in-Err-clause-usage g c =
     let old = g.F.Files.state c.args.files.now in
     let out : Written = record { told = g.O.Sink.told c.args.out.now; faults = g.O.Sink.faults c.args.out.now } in
     let err : Written = record { told = g.E.Sink.told c.args.err.now; faults = g.E.Sink.faults c.args.err.now } in
-    let new = g.F.Files.state c.run_script.new.files in
-    let out' : Written = record { told = g.O.Sink.told c.run_script.new.out; faults = g.O.Sink.faults c.run_script.new.out } in
+    let new = g.F.Files.state c.run_command.new.files in
+    let out' : Written = record {
+      told = g.O.Sink.told c.run_command.new.out;
+      faults =
+          g.O.Sink.faults c.run_command.new.out;
+    } in
     let accepted = sym (rw c.in-Some.is at (c.accepted.ensures bits)) in
     let err' : Written = record { told = g.E.Sink.told c.tell.new.err; faults = g.E.Sink.faults c.tell.new.err } in
-    λ e. absurd (no_usage old new out.faults out'.faults err err' c.in-Err.unfinished c.tell.result c.in-Err.ensures.ending
+    λ e. absurd (no_usage old new out.faults out'.faults err err' c.in-Err.unfinished c.tell.result
+    c.in-Err.ensures.ending
     c.tell.ensures.tells e)
 
 pub returns-in-Err-clause-unaccepted : goal.returns-in-Err-clause-unaccepted
@@ -139,19 +176,20 @@ returns-in-Err-clause-unaccepted g c =
     let bits = g.N.Number.BITS in
     let words = map (string_bytes {Z = Global}) c.args.words.now in
     let accepted = sym (rw c.in-Some.is at (c.accepted.ensures bits)) in
-    λ none. absurd (not_both bits words c.in-Some.script.now accepted none)
+    λ none. absurd (not_both bits words (command_of c.in-Some.command) accepted none)
 
 pub returns-in-Err-clause-untouched : goal.returns-in-Err-clause-untouched
 returns-in-Err-clause-untouched g c =
     let bits = g.N.Number.BITS in
     let words = map (string_bytes {Z = Global}) c.args.words.now in
     let accepted = sym (rw c.in-Some.is at (c.accepted.ensures bits)) in
-    λ none. absurd (not_both bits words c.in-Some.script.now accepted none)
+    λ none. absurd (not_both bits words (command_of c.in-Some.command) accepted none)
 
 pub returns-in-Err-clause-only_needed : goal.returns-in-Err-clause-only_needed
 returns-in-Err-clause-only_needed g c =
     let bits = g.N.Number.BITS in
     let words = map (string_bytes {Z = Global}) c.args.words.now in
     let accepted = sym (rw c.in-Some.is at (c.accepted.ensures bits)) in
-    reads_only_needed bits words c.in-Some.script.now (g.F.Files.state c.args.files.now).told (g.F.Files.state c.args.files.now).reading
-    (g.F.Files.state c.run_script.new.files).reading accepted c.in-Err.ensures.needed
+    reads_only_needed bits words (command_of c.in-Some.command) (g.F.Files.state c.args.files.now).told
+    (g.F.Files.state c.args.files.now).reading
+    (g.F.Files.state c.run_command.new.files).reading accepted c.in-Err.ensures.needed

@@ -4,6 +4,7 @@ use Rattle.cla_script.specs.declared.expr.Script.{Script}
 use Rattle.cla_script.specs.Reads.{statements_of}
 use Rattle.cla_check.specs.Checks.{script_of}
 use Rattle.cla_cli.specs.Outcome.{script_outcome, statements_outcome}
+use Rattle.cla_cli.specs.Statements.{trace_of, script_work}
 use Rattle.cla_cli.specs.Run.{written}
 use Rattle.cla_cli.specs.Parts.{Reaches}
 use Rattle.cla_cli.proofs.EndLaws.{read_ends, statements_done, statements_halt, done_counted, halt_counted, needed_where_told}
@@ -14,8 +15,10 @@ pub returns-in-Err-clause-comes : goal.returns-in-Err-clause-comes
 returns-in-Err-clause-comes g c =
     let old = g.F.Files.state c.args.files.now in
     let new = g.F.Files.state c.read_inputs.new.files in
-    read_ends (statements_outcome g.N.Number.BITS []) g.N.Number.BITS old.told new.told c.args.name.now old new
-    (written (g.O.Sink.told c.args.out.now) (g.O.Sink.faults c.args.out.now)) c.in-Err.unfinished c.in-Err.ensures.frame.told
+    read_ends (statements_outcome g.N.Number.BITS [])
+    (λ t. script_outcome g.N.Number.BITS c.args.budget t c.args.name.now) old.told new.told old new
+    (written (g.O.Sink.told c.args.out.now) (g.O.Sink.faults c.args.out.now)) c.in-Err.unfinished
+    c.in-Err.ensures.frame.told
     (λ t there. c.in-Err.ensures.reads t there) c.in-Err.ensures.ending
 
 pub returns-in-Ok-run_statements-clause-comes : goal.returns-in-Ok-run_statements-clause-comes
@@ -26,12 +29,16 @@ returns-in-Ok-run_statements-clause-comes g c =
     let old = g.F.Files.state c.args.files.now in
     let new = g.F.Files.state c.read_inputs.new.files in
     let reaches : (t : Told) → old.told ≡ Some t →
-    Reaches (script_outcome g.N.Number.BITS t c.args.name.now) (statements_outcome g.N.Number.BITS xs ms) =
-    λ t there. reached_as g.N.Number.BITS t c.args.name.now (statements (script_of c.in-Ok.inputs.checked).statements.items) xs
+    Reaches (script_outcome g.N.Number.BITS c.args.budget t c.args.name.now) (statements_outcome g.N.Number.BITS xs ms)
+    =
+    λ t there. reached_as g.N.Number.BITS c.args.budget t c.args.name.now
+    (statements (script_of c.in-Ok.inputs.checked).statements.items) xs
     c.in-Ok.inputs.tables.items ms
-    (ap statements (c.deref.ensures.value ∙ ap (λ (s : Script g.row.N.Denot). s.statements.items) c.script.ensures.same))
+    (ap statements (c.deref.ensures.value
+    ∙ ap (λ (s : Script g.row.N.Denot). s.statements.items) c.script.ensures.same))
     c.deref-2.ensures.value (c.in-Ok.ensures.reads t there) in
-    statements_done g.N.Number.BITS old.told new.told c.args.name.now xs ms old new
+    statements_done (λ t. script_outcome g.N.Number.BITS c.args.budget t c.args.name.now) old.told new.told
+    (script_work [] xs ms) (trace_of g.N.Number.BITS [] xs ms) old new
     (written (g.O.Sink.told c.args.out.now) (g.O.Sink.faults c.args.out.now))
     (written (g.O.Sink.told c.run_statements.new.out) (g.O.Sink.faults c.run_statements.new.out))
     c.in-Ok.ensures.frame.told reaches c.in-Ok.ensures.ending.0.0 (λ t. c.in-Ok-run_statements.ensures.runs t)
@@ -44,12 +51,16 @@ returns-in-Ok-run_statements-clause-counts g c =
     let ms = c.deref-2.result.now in
     let old = g.F.Files.state c.args.files.now in
     let reaches : (t : Told) → old.told ≡ Some t →
-    Reaches (script_outcome g.N.Number.BITS t c.args.name.now) (statements_outcome g.N.Number.BITS xs ms) =
-    λ t there. reached_as g.N.Number.BITS t c.args.name.now (statements (script_of c.in-Ok.inputs.checked).statements.items) xs
+    Reaches (script_outcome g.N.Number.BITS c.args.budget t c.args.name.now) (statements_outcome g.N.Number.BITS xs ms)
+    =
+    λ t there. reached_as g.N.Number.BITS c.args.budget t c.args.name.now
+    (statements (script_of c.in-Ok.inputs.checked).statements.items) xs
     c.in-Ok.inputs.tables.items ms
-    (ap statements (c.deref.ensures.value ∙ ap (λ (s : Script g.row.N.Denot). s.statements.items) c.script.ensures.same))
+    (ap statements (c.deref.ensures.value
+    ∙ ap (λ (s : Script g.row.N.Denot). s.statements.items) c.script.ensures.same))
     c.deref-2.ensures.value (c.in-Ok.ensures.reads t there) in
-    done_counted g.N.Number.BITS old.told c.args.name.now xs ms c.args.meter.now c.run_statements.new.meter reaches
+    done_counted (λ t. script_outcome g.N.Number.BITS c.args.budget t c.args.name.now) old.told
+    (script_work [] xs ms) (trace_of g.N.Number.BITS [] xs ms) c.args.meter.now c.run_statements.new.meter reaches
     c.in-Ok-run_statements.ensures.counts
 
 pub returns-clause-comes : goal.returns-clause-comes
@@ -60,12 +71,16 @@ returns-clause-comes g c =
     let old = g.F.Files.state c.args.files.now in
     let new = g.F.Files.state c.read_inputs.new.files in
     let reaches : (t : Told) → old.told ≡ Some t →
-    Reaches (script_outcome g.N.Number.BITS t c.args.name.now) (statements_outcome g.N.Number.BITS xs ms) =
-    λ t there. reached_as g.N.Number.BITS t c.args.name.now (statements (script_of c.in-Ok.inputs.checked).statements.items) xs
+    Reaches (script_outcome g.N.Number.BITS c.args.budget t c.args.name.now) (statements_outcome g.N.Number.BITS xs ms)
+    =
+    λ t there. reached_as g.N.Number.BITS c.args.budget t c.args.name.now
+    (statements (script_of c.in-Ok.inputs.checked).statements.items) xs
     c.in-Ok.inputs.tables.items ms
-    (ap statements (c.deref.ensures.value ∙ ap (λ (s : Script g.row.N.Denot). s.statements.items) c.script.ensures.same))
+    (ap statements (c.deref.ensures.value
+    ∙ ap (λ (s : Script g.row.N.Denot). s.statements.items) c.script.ensures.same))
     c.deref-2.ensures.value (c.in-Ok.ensures.reads t there) in
-    statements_halt g.N.Number.BITS old.told new.told c.args.name.now xs ms old new
+    statements_halt (λ t. script_outcome g.N.Number.BITS c.args.budget t c.args.name.now) old.told new.told
+    (script_work [] xs ms) (trace_of g.N.Number.BITS [] xs ms) old new
     (written (g.O.Sink.told c.args.out.now) (g.O.Sink.faults c.args.out.now))
     (written (g.O.Sink.told c.run_statements.new.out) (g.O.Sink.faults c.run_statements.new.out))
     c.in-Err-run_statements.halted c.tell_halt.result c.in-Ok.ensures.frame.told reaches c.in-Ok.ensures.ending.0.0
@@ -78,15 +93,20 @@ returns-clause-counts g c =
     let ms = c.deref-2.result.now in
     let old = g.F.Files.state c.args.files.now in
     let reaches : (t : Told) → old.told ≡ Some t →
-    Reaches (script_outcome g.N.Number.BITS t c.args.name.now) (statements_outcome g.N.Number.BITS xs ms) =
-    λ t there. reached_as g.N.Number.BITS t c.args.name.now (statements (script_of c.in-Ok.inputs.checked).statements.items) xs
+    Reaches (script_outcome g.N.Number.BITS c.args.budget t c.args.name.now) (statements_outcome g.N.Number.BITS xs ms)
+    =
+    λ t there. reached_as g.N.Number.BITS c.args.budget t c.args.name.now
+    (statements (script_of c.in-Ok.inputs.checked).statements.items) xs
     c.in-Ok.inputs.tables.items ms
-    (ap statements (c.deref.ensures.value ∙ ap (λ (s : Script g.row.N.Denot). s.statements.items) c.script.ensures.same))
+    (ap statements (c.deref.ensures.value
+    ∙ ap (λ (s : Script g.row.N.Denot). s.statements.items) c.script.ensures.same))
     c.deref-2.ensures.value (c.in-Ok.ensures.reads t there) in
-    halt_counted g.N.Number.BITS old.told c.args.name.now xs ms c.args.meter.now c.run_statements.new.meter
+    halt_counted (λ t. script_outcome g.N.Number.BITS c.args.budget t c.args.name.now) old.told
+    (script_work [] xs ms) (trace_of g.N.Number.BITS [] xs ms) c.args.meter.now c.run_statements.new.meter
     c.in-Err-run_statements.halted c.tell_halt.result reaches c.tell_halt.ensures c.in-Err-run_statements.ensures.counts
 
 pub returns-clause-needed : goal.returns-clause-needed
 returns-clause-needed g c =
-    needed_where_told g.N.Number.BITS (g.F.Files.state c.args.files.now).told c.args.name.now
+    needed_where_told (λ t. script_outcome g.N.Number.BITS c.args.budget t c.args.name.now)
+    (g.F.Files.state c.args.files.now).told
     (g.F.Files.state c.read_inputs.new.files).reading (λ t there. c.in-Ok.ensures.needed t there)

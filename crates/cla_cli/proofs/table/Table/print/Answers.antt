@@ -10,6 +10,9 @@ returns-clause-puts g c =
     let t = c.self.inside.coded in
     let one = one_part any_codes t c.self.inside.is_loose in
     let g0 = (get_or c.parts.result.now 0 c.index-parts-0.result).group in
-    let same : one.part.group ≡ g0 = sym (ap (λ (l : List (Part _)). (get_or l 0 c.index-parts-0.result).group) (c.parts.ensures.parts ∙ one.only)) in
-    let text = text_is g.N.Number.BITS (any_columns g0) any_codes any_dictionary t g0 c.self.inside.is_loose c.self.inside.is_whole one same (any_law g0) in
+    let same : one.part.group ≡ g0 =
+    sym (ap (λ (l : List (Part _)). (get_or l 0 c.index-parts-0.result).group) (c.parts.ensures.parts ∙ one.only))
+    in
+    let text = text_is g.N.Number.BITS (any_columns g0) any_codes any_dictionary t g0 c.self.inside.is_loose
+    c.self.inside.is_whole one same (any_law g0) in
     rw (text ∙ ap matrix_text c.self.view_is) at c.print_rows.ensures.puts

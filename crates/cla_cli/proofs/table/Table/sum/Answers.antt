@@ -15,10 +15,12 @@ returns-clause-sum g c =
 pub returns-clause-counts : goal.returns-clause-counts
 returns-clause-counts g c =
     subst (λ (n : ℕ). HasMults n c.args.meter.now c.sum.new.meter)
-    (cells_are g.N.Number.BITS any_codes any_dictionary c.self.inside.coded c.args.self.now c.self.inside.is_loose c.self.inside.is_whole c.self.view_is)
+    (cells_are g.N.Number.BITS any_codes any_dictionary c.self.inside.coded c.args.self.now c.self.inside.is_loose
+    c.self.inside.is_whole c.self.view_is)
     c.sum.ensures.counts
 
 pub returns-clause-few : goal.returns-clause-few
 returns-clause-few g c =
-    let few = cells_few g.N.Number.BITS any_codes any_dictionary c.self.inside.coded c.self.inside.is_loose c.self.inside.is_whole in
+    let few = cells_few g.N.Number.BITS any_codes any_dictionary c.self.inside.coded c.self.inside.is_loose
+    c.self.inside.is_whole in
     rw c.sum.ensures.counts (record { mults = omega (arith, few); maps = omega arith })

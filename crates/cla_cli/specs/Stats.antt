@@ -1,0 +1,55 @@
+-- How a table is grouped, as it is told.
+use Rattle.std.specs.Prelude.{ℕ, pos, suc, List, [], ◌∷◌, ◌++◌, length, map, codes}
+use Rattle.cla_spec.specs.Numbers.{decimal_of}
+use Rattle.cla_spec.specs.Matrix.{Matrix}
+use Rattle.cla_layout.specs.declared.kind.Kind.{Kind}
+use Rattle.cla_layout.specs.declared.kind.Kind.TheVariants as kind
+use Rattle.cla_grouping.specs.Tuples.{tuples_in}
+use Rattle.cla_grouping.specs.Grouping.{GroupOf, grouping_of, packed_size}
+use Rattle.cla_cli.specs.declared.stats.GroupStats.{GroupStats}
+
+abbrev pub kind_text : Kind → List ℕ
+kind_text kind.Plain = codes "plain"
+kind_text kind.Codes = codes "codes"
+kind_text kind.Offsets = codes "offsets"
+kind_text kind.Runs = codes "runs"
+
+-- a number behind a word
+abbrev pub numbered : List ℕ → ℕ → List ℕ
+numbered word n = word ++ decimal_of (pos n)
+
+-- the line of a group, with its number from 1: its kind, how many columns it has, how many tuples, and its bytes
+abbrev pub group_line : ℕ → GroupStats → List ℕ
+group_line n g =
+    numbered (codes "group ") n ++ codes " " ++ kind_text g.kind ++ numbered (codes " width ") g.width
+    ++ numbered (codes " tuples ") g.tuples ++ numbered (codes " bytes ") g.bytes ++ codes "\n"
+
+-- the lines of groups, of which so many stand before
+abbrev pub group_lines : ℕ → List GroupStats → List ℕ
+group_lines before [] = []
+group_lines before (g ∷ groups) = group_line (suc before) g ++ group_lines (suc before) groups
+
+-- a table's rows, columns, groups and bytes, a line for each
+abbrev pub head_lines : ℕ → ℕ → ℕ → ℕ → List ℕ
+head_lines rows cols groups bytes =
+    numbered (codes "rows ") rows ++ numbered (codes "\ncolumns ") cols ++ numbered (codes "\ngroups ") groups
+    ++ numbered (codes "\nbytes ") bytes ++ codes "\n"
+
+-- How many tuples a group of columns has: in a plain group each row has one of its own, in the others the distinct ones
+-- count, the tuple of zeros too.
+abbrev pub tuples_by_kind : Kind → Matrix → List ℕ → ℕ
+tuples_by_kind kind.Plain m columns = m.rows
+tuples_by_kind kind.Codes m columns = (tuples_in m columns).distinct
+tuples_by_kind kind.Offsets m columns = (tuples_in m columns).distinct
+tuples_by_kind kind.Runs m columns = (tuples_in m columns).distinct
+
+-- what is told of a group of the cut of a matrix
+abbrev pub stats_of : Matrix → GroupOf → GroupStats
+stats_of m g = record
+    { kind = g.kind; width = length g.columns; tuples = tuples_by_kind g.kind m g.columns; bytes = g.bytes }
+
+-- what is told of a matrix
+abbrev pub stats_text : Matrix → List ℕ
+stats_text m =
+    head_lines m.rows m.cols (length (grouping_of m).groups) (packed_size (grouping_of m))
+    ++ group_lines 0 (map (stats_of m) (grouping_of m).groups)
