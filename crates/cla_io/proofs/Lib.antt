@@ -3,3 +3,4 @@ pub mod TakenLines
 pub mod WindowLaws
 pub mod GatherLaws
 pub mod MemMap
+pub mod NumberLaws

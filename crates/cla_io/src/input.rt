@@ -14,8 +14,8 @@ use std::alloc::Global;
 /// A file that is being read, and what was taken of it, in `B`. [`Input`] is the only one in use:
 /// the parameter lets a caller know its files once an input is gone.
 pub struct InputOver<'a, F: Files, B: Drop> {
-    files: &'a mut F,
-    taken: B,
+    pub(crate) files: &'a mut F,
+    pub(crate) taken: B,
     ghost open: { IsSome (F.state files.now).reading },
 }
 

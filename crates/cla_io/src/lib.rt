@@ -13,6 +13,7 @@ mod last_line;
 mod mem_files;
 mod mem_map;
 mod mem_sink;
+mod numbers;
 mod plan;
 mod put;
 mod sink;

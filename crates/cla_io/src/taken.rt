@@ -17,10 +17,10 @@ use std::marker::Model;
 /// The bytes that are held, the line that was taken last, and how much was taken.
 #[derive(Drop)]
 pub struct Taken {
-    window: Window,
-    last: LastLine,
-    limit: u64,
-    at: u64,
+    pub(crate) window: Window,
+    pub(crate) last: LastLine,
+    pub(crate) limit: u64,
+    pub(crate) at: u64,
     lines: u64,
     ended: bool,
 }

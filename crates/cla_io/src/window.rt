@@ -23,6 +23,7 @@ pub(crate) struct Window {
     pub(crate) end: usize,
     ghost ordered: { start ≤ end },
     ghost within: { end ≤ length bytes.items },
+    ghost roomy: { 0 < length bytes.items → 8 ≤ length bytes.items },
 }
 
 impl Window {
@@ -100,8 +101,9 @@ impl Window {
     }
 
     // Takes the buffer's memory, once.
-    fn take_memory(&mut self) -> Result<(), Memory>
-        ensures ready { OnOk result (0 < length self.new.bytes.items) }
+    pub(crate) fn take_memory(&mut self) -> Result<(), Memory>
+        ensures same { items self.new ≡ items self.old }
+        ensures ready { OnOk result (8 ≤ length self.new.bytes.items) }
     {
         if self.bytes.is_empty() {
             self.start = 0;

@@ -1,0 +1,9 @@
+pub mod Loops
+pub mod NumberLaws
+pub mod ValueLaws
+pub mod OwnerLaws
+pub mod StateLaws
+pub mod RowLaws
+pub mod ListLaws
+pub mod RunLaws
+pub mod HeaderLaws

@@ -1,0 +1,8 @@
+pub mod Places
+pub mod Ranges
+pub mod Owners
+pub mod Values
+pub mod Segments
+pub mod Runs
+pub mod Listings
+pub mod Headers
