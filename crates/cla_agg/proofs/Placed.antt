@@ -50,51 +50,41 @@ set_elsewhere part now c p j v place none =
     (λ same. (let own = (own_column part c place.rising place.there).1 in
     let both : true ≡ false = sym own ∙ ap (has_column part) (sym (same ∙ place.is)) ∙ none in absurd (cc both)))
 
--- a tuple is added up before place c
-pub record IsAddedBefore (k c : ℕ) (part : LayoutPart) (old new : List ℤ) : Type 0 where
-  pub done : (d : ℕ) → d < c → at new (column_at part.columns d) ≡ sum_to (λ l. occurring part.codes part.tuples l d) (k + 1)
-  pub left : (d : ℕ) → c ≤ d → d < length part.columns
-      → at new (column_at part.columns d) ≡ sum_to (λ l. occurring part.codes part.tuples l d) k
+-- what is made of the columns before place c, and what the others still are
+pub record AreMadeBefore (Done Left : ℕ → ℤ → Type 0) (c : ℕ) (part : LayoutPart) (old new : List ℤ) : Type 0 where
+  pub done : (d : ℕ) → d < c → Done d (at new (column_at part.columns d))
+  pub left : (d : ℕ) → c ≤ d → d < length part.columns → Left d (at new (column_at part.columns d))
   pub kept : (j : ℕ) → has_column part j ≡ false → at new j ≡ at old j
+
+pub made_here : (Done Left : ℕ → ℤ → Type 0) (c : ℕ) (part : LayoutPart) (old now : List ℤ) (p : ℕ) (v : ℤ)
+    → IsPlaceOf part now c p → Done c v
+    → AreMadeBefore Done Left c part old now → AreMadeBefore Done Left (c + 1) part old (set now p v)
+made_here Done Left c part old now p v place is before = record {
+  done = λ d lt. elim (cases_eq d c) [
+    | inl same ↦ subst (λ (e : ℕ). Done e (at (set now p v) (column_at part.columns e))) (sym same)
+        (subst (Done c) (sym (set_here part now c p v place)) is)
+    | inr other ↦ (let earlier : d < c = grind (arith, lt, other) in
+        let place_there : d < length part.columns = omega (arith, earlier, place.there) in
+        subst (Done d) (sym (set_there part now c p d v place place_there other)) (before.done d earlier))
+  ];
+  left = λ d le there. (let other : d ≡ c → ⊥ = λ same. omega (arith, le, same) in
+      let later : c ≤ d = omega (arith, le) in
+      subst (Left d) (sym (set_there part now c p d v place there other)) (before.left d later there));
+  kept = λ j none. set_elsewhere part now c p j v place none ∙ before.kept j none;
+}
+
+-- a tuple is added up before place c
+abbrev pub IsAddedBefore : ℕ → ℕ → LayoutPart → List ℤ → List ℤ → Type 0
+IsAddedBefore k c part old new =
+    AreMadeBefore (λ d v. v ≡ sum_to (λ l. occurring part.codes part.tuples l d) (k + 1))
+    (λ d v. v ≡ sum_to (λ l. occurring part.codes part.tuples l d) k) c part old new
 
 pub added_here : (k c : ℕ) (part : LayoutPart) (old now : List ℤ) (p : ℕ) (v : ℤ) → IsPlaceOf part now c p
     → v ≡ sum_to (λ l. occurring part.codes part.tuples l c) (k + 1)
     → IsAddedBefore k c part old now → IsAddedBefore k (c + 1) part old (set now p v)
-added_here k c part old now p v place is before = record {
-  done = λ d lt. elim (cases_eq d c) [
-    | inl same ↦ ap (λ (e : ℕ). at (set now p v) (column_at part.columns e)) same ∙ set_here part now c p v place ∙ is
-        ∙ ap (λ (e : ℕ). sum_to (λ l. occurring part.codes part.tuples l e) (k + 1)) (sym same)
-    | inr other ↦ (let earlier : d < c = grind (arith, lt, other) in
-        let place_there : d < length part.columns = omega (arith, earlier, place.there) in
-        set_there part now c p d v place place_there other ∙ before.done d earlier)
-  ];
-  left = λ d le there. (let other : d ≡ c → ⊥ = λ same. omega (arith, le, same) in
-      let later : c ≤ d = omega (arith, le) in
-      set_there part now c p d v place there other ∙ before.left d later there);
-  kept = λ j none. set_elsewhere part now c p j v place none ∙ before.kept j none;
-}
-
--- what is made of the columns before place c
-pub record ArePlacedBefore (Of : (ℕ → ℤ) → ℕ → ℤ → Type 0) (c : ℕ) (part : LayoutPart) (old new : List ℤ) : Type 0 where
-  pub made : (d : ℕ) → d < c
-      → Of (λ i. cell_of part.codes part.tuples i d) (length part.codes) (at new (column_at part.columns d))
-  pub kept : (j : ℕ) → has_column part j ≡ false → at new j ≡ at old j
-
-pub placed_here : (Of : (ℕ → ℤ) → ℕ → ℤ → Type 0) (c : ℕ) (part : LayoutPart) (old now : List ℤ) (p : ℕ) (v : ℤ)
-    → IsPlaceOf part now c p → Of (λ i. cell_of part.codes part.tuples i c) (length part.codes) v
-    → ArePlacedBefore Of c part old now → ArePlacedBefore Of (c + 1) part old (set now p v)
-placed_here Of c part old now p v place is before = record {
-  made = λ d lt. elim (cases_eq d c) [
-    | inl same ↦
-        subst (λ (e : ℕ). Of (λ i. cell_of part.codes part.tuples i e) (length part.codes) (at (set now p v) (column_at part.columns e)))
-        (sym same) (subst (Of (λ i. cell_of part.codes part.tuples i c) (length part.codes)) (sym (set_here part now c p v place)) is)
-    | inr other ↦ (let earlier : d < c = grind (arith, lt, other) in
-        let place_there : d < length part.columns = omega (arith, earlier, place.there) in
-        subst (Of (λ i. cell_of part.codes part.tuples i d) (length part.codes))
-        (sym (set_there part now c p d v place place_there other)) (before.made d earlier))
-  ];
-  kept = λ j none. set_elsewhere part now c p j v place none ∙ before.kept j none;
-}
+added_here k c part old now p v place is before =
+    made_here (λ d z. z ≡ sum_to (λ l. occurring part.codes part.tuples l d) (k + 1))
+    (λ d z. z ≡ sum_to (λ l. occurring part.codes part.tuples l d) k) c part old now p v place is before
 
 -- what is made of a line depends on its values alone
 abbrev pub Respects : ((ℕ → ℤ) → ℕ → ℤ → Type 0) → Type 0

@@ -67,13 +67,34 @@ impl Cells {
         })
     }
 
-    /// What `fold` makes of each row, from its first cell on.
-    pub(crate) fn by_row(&self, alloc: Global, fold: Fold) -> Result<Vec<Entry>, Fail> {
+    // What `fold` makes of each row, from its first cell on.
+    fn by_row(&self, alloc: Global, fold: Fold) -> Result<Vec<Entry>, Fail> {
         let mut made = Vec::new(alloc);
         for i in 0..self.rows {
             made.push(self.folded(i, fold)?)?;
         }
         numbers(alloc, &made)
+    }
+
+    // What `fold` makes of each of these lines.
+    fn by_line(&self, alloc: Global, fold: Fold, lines: Lines) -> Result<Outcome, Fail> {
+        match lines {
+            Lines::All => {
+                let cells = Vec::from_slice(alloc, &self.cells)?;
+                let cols = u32::try_from(cells.len())?;
+                let flat = Cells {
+                    rows: 1,
+                    cols,
+                    cells,
+                };
+                Ok(Outcome::Cells(1, 1, flat.by_row(alloc, fold)?))
+            }
+            Lines::Rows => Ok(Outcome::Cells(self.rows, 1, self.by_row(alloc, fold)?)),
+            Lines::Columns => {
+                let turned = self.turned(alloc)?;
+                Ok(Outcome::Cells(1, self.cols, turned.by_row(alloc, fold)?))
+            }
+        }
     }
 
     // What `fold` makes of row i.
@@ -104,14 +125,54 @@ impl Fold {
     }
 }
 
+/// The lines of which a number each is made.
+#[derive(Clone, Copy)]
+pub(crate) enum Lines {
+    All,
+    Rows,
+    Columns,
+}
+
+/// A call on a table, and what it is given.
+#[derive(Clone, Copy)]
+pub(crate) enum Call<'a> {
+    Of(Fold, Lines),
+    Chain(&'a [SlowStep]),
+    Row(CellOp, &'a [i64]),
+}
+
 /// What a call answers.
 #[derive(Drop)]
 pub(crate) enum Outcome {
-    /// A matrix of these cells.
-    Cells(Vec<Entry>),
+    /// A matrix of these rows, columns and cells.
+    Cells(u32, u32, Vec<Entry>),
 
     /// A fault at this step, from 0, and this row and column, from 1.
     Fault(u32, u32, u32),
+}
+
+impl Outcome {
+    /// Both are the same cells, or the same fault.
+    pub(crate) fn is(&self, other: &Outcome) -> bool {
+        match (self, other) {
+            (Outcome::Cells(rows, cols, cells), Outcome::Cells(height, width, others)) => {
+                (*rows, *cols) == (*height, *width) && cells.as_slice() == others.as_slice()
+            }
+            (Outcome::Fault(op, row, col), Outcome::Fault(step, i, j)) => {
+                (*op, *row, *col) == (*step, *i, *j)
+            }
+            _ => false,
+        }
+    }
+}
+
+/// What a call on these cells has to answer.
+pub(crate) fn expected(alloc: Global, cells: &Cells, call: Call) -> Result<Outcome, Fail> {
+    match call {
+        Call::Of(fold, lines) => cells.by_line(alloc, fold, lines),
+        Call::Chain(steps) => chained(alloc, cells, steps),
+        Call::Row(op, row) => with_row(alloc, cells, op, row),
+    }
 }
 
 /// A step of a chain.
@@ -135,8 +196,8 @@ impl SlowStep {
     }
 }
 
-/// All steps on all cells, one step after the other.
-pub(crate) fn chained(alloc: Global, cells: &Cells, steps: &[SlowStep]) -> Result<Outcome, Fail> {
+// All steps on all cells, one step after the other.
+fn chained(alloc: Global, cells: &Cells, steps: &[SlowStep]) -> Result<Outcome, Fail> {
     let mut values = Vec::from_slice(alloc, &cells.cells)?;
     let mut op = 0u32;
     for step in steps {
@@ -145,7 +206,7 @@ pub(crate) fn chained(alloc: Global, cells: &Cells, steps: &[SlowStep]) -> Resul
         }
         op = op.saturating_add(1);
     }
-    Ok(Outcome::Cells(numbers(alloc, &values)?))
+    Ok(Outcome::Cells(cells.rows, cells.cols, numbers(alloc, &values)?))
 }
 
 // The step on each value up to the first that has a fault, and where that stands.
@@ -159,13 +220,8 @@ fn stepped(step: SlowStep, values: &mut [i64]) -> Option<usize> {
     None
 }
 
-/// The cells with the row's number in their column.
-pub(crate) fn with_row(
-    alloc: Global,
-    cells: &Cells,
-    op: CellOp,
-    row: &[i64],
-) -> Result<Outcome, Fail> {
+// The cells with the row's number in their column.
+fn with_row(alloc: Global, cells: &Cells, op: CellOp, row: &[i64]) -> Result<Outcome, Fail> {
     let mut made = Vec::new(alloc);
     let cols = cells.cols as usize;
     for place in 0..cells.cells.len() {
@@ -176,7 +232,7 @@ pub(crate) fn with_row(
             None => return fault(0, place, cols),
         }
     }
-    Ok(Outcome::Cells(numbers(alloc, &made)?))
+    Ok(Outcome::Cells(cells.rows, cells.cols, numbers(alloc, &made)?))
 }
 
 // A fault at this step and cell.

@@ -2,7 +2,6 @@
 
 ghost use Rattle.std.specs.Prelude.{◌≡◌};
 
-use crate::calls::sum_of;
 use crate::layouts::{Grouping, grouped, parts_of};
 use crate::slow::Cells;
 use crate::watched::{Calls, Watched};
@@ -138,7 +137,8 @@ fn a_tuple_without_a_list(rt: HostRuntime) -> Result<(), Fail> {
     };
     let mut meter = Meter::new();
     let more = map_chain(alloc, &table, &[step], &mut meter)?;
-    assert_eq!(rt; sum_of(&more)?, Entry::of(1000).ok_or("in range")?);
+    let total = sum(&more, &mut Meter::new()).ok().ok_or("a sum")?;
+    assert_eq!(rt; total, Entry::of(1000).ok_or("in range")?);
     assert_eq!(rt; meter.maps(), 1);
     Ok(())
 }

@@ -1,63 +1,18 @@
 //! Values that were worked by hand.
 
-use crate::calls::{chain_of, col_sums_of, row_of, row_sums_of, same, sum_of};
+use crate::calls::{answers, gives};
 use crate::layouts::{Grouping, grouped};
-use crate::slow::{Cells, Outcome, SlowStep};
-use cla_agg::{col_greatest, col_least, greatest, least, row_greatest, row_least, row_sums};
-use cla_checked_tables::{Entry, numbers};
+use crate::slow::{Call, Cells, Fold, Lines, Outcome, SlowStep};
+use cla_agg::row_sums;
+use cla_checked_tables::Entry;
 use cla_coded::Coded;
 use cla_map::{Step, map_chain};
-use cla_num::{CellOp, Dense, Meter, Number, Refused, What, Wide};
+use cla_num::{CellOp, Meter, Number, OpFault, Refused, What};
 use std::alloc::Global;
 use std::process::Abort;
 use std::test::Fail;
 
 const GREATEST: i64 = 140737488355327;
-
-// The matrix has these cells.
-fn has(rt: &impl Abort, alloc: Global, m: &Dense<Entry>, cells: &[i64]) -> Result<(), Fail> {
-    assert!(rt; m.cells() == numbers(alloc, cells)?.as_slice());
-    Ok(())
-}
-
-// The chain gives these cells.
-fn gives(
-    rt: &impl Abort,
-    alloc: Global,
-    table: &Coded<Entry>,
-    steps: &[SlowStep],
-    cells: &[i64],
-) -> Result<(), Fail> {
-    let answer = chain_of(alloc, table, steps)?;
-    same(rt, &answer, &Outcome::Cells(numbers(alloc, cells)?));
-    Ok(())
-}
-
-// The decimal text of an exact value.
-fn text(value: Wide, into: &mut [u8; 40]) -> &[u8] {
-    let length = value.put(into);
-    &into[..length]
-}
-
-// The value out of range has this text.
-fn is_told(rt: &impl Abort, what: What, expected: &str) -> Result<(), Fail> {
-    let mut buffer = [0; 40];
-    match what {
-        What::Range { value } => {
-            assert!(rt; text(value, &mut buffer) == expected.as_bytes());
-            Ok(())
-        }
-        What::Zero => Err(Fail::new("a division by zero")),
-    }
-}
-
-// What an operator refuses.
-fn what_of(refused: Refused) -> Result<What, Fail> {
-    match refused {
-        Refused::Op(fault) => Ok(fault.what),
-        Refused::Memory => Err(Fail::new("no memory")),
-    }
-}
 
 // The greatest entry twice, and less it once: the sum is in range, and no partial sum is tested.
 #[test]
@@ -66,10 +21,34 @@ fn partial_sums_may_be_large(rt: HostRuntime) -> Result<(), Fail> {
     let cells = Cells::of(alloc, 3, 1, &[GREATEST, GREATEST, -GREATEST])?;
     for kind in 0..4usize {
         let table = grouped(alloc, &cells, Grouping::One, kind, false)?;
-        assert_eq!(rt; sum_of(&table)?, Entry::of(GREATEST).ok_or("in range")?);
-        has(&rt, alloc, &col_sums_of(alloc, &table)?, &[GREATEST])?;
-        has(&rt, alloc, &row_sums_of(alloc, &table.flip())?, &[GREATEST])?;
+        for lines in [Lines::All, Lines::Columns] {
+            gives(
+                &rt,
+                alloc,
+                &table,
+                Call::Of(Fold::Sum, lines),
+                (1, 1),
+                &[GREATEST],
+            )?;
+        }
+        let sums = Call::Of(Fold::Sum, Lines::Rows);
+        gives(&rt, alloc, &table.flip(), sums, (1, 1), &[GREATEST])?;
     }
+    Ok(())
+}
+
+// What was refused is the value one past the greatest entry, at this step and cell.
+fn is_past(rt: &impl Abort, refused: Refused, cell: (u32, u32)) -> Result<(), Fail> {
+    let Refused::Op(OpFault { op, row, col, what }) = refused else {
+        return Err(Fail::new("no memory"));
+    };
+    assert_eq!(rt; (op, row, col), (0, cell.0, cell.1));
+    let What::Range { value } = what else {
+        return Err(Fail::new("a division by zero"));
+    };
+    let mut text = [0; 40];
+    let length = value.put(&mut text);
+    assert!(rt; &text[..length] == b"140737488355328".as_slice());
     Ok(())
 }
 
@@ -78,27 +57,16 @@ fn partial_sums_may_be_large(rt: HostRuntime) -> Result<(), Fail> {
 fn first_cells_of_flipped_tables(rt: HostRuntime) -> Result<(), Fail> {
     let alloc = rt.alloc();
     let cells = Cells::of(alloc, 2, 2, &[1, 2, GREATEST, GREATEST])?;
-    let one = Entry::of(1).ok_or("in range")?;
     let step = Step::Right {
         op: CellOp::Add,
-        scalar: one,
+        scalar: Entry::of(1).ok_or("in range")?,
     };
     for kind in 0..4usize {
         let table = grouped(alloc, &cells, Grouping::Each, kind, true)?;
-        let answer = chain_of(alloc, &table, &[SlowStep::Right(CellOp::Add, 1)])?;
-        same(&rt, &answer, &Outcome::Fault(0, 1, 2));
         let mapped = map_chain(alloc, &table, &[step], &mut Meter::new());
-        is_told(
-            &rt,
-            what_of(mapped.err().ok_or("cells")?)?,
-            "140737488355328",
-        )?;
+        is_past(&rt, mapped.err().ok_or("cells")?, (1, 2))?;
         let summed = row_sums(alloc, &table, &mut Meter::new());
-        is_told(
-            &rt,
-            what_of(summed.err().ok_or("cells")?)?,
-            "140737488355328",
-        )?;
+        is_past(&rt, summed.err().ok_or("cells")?, (1, 1))?;
     }
     Ok(())
 }
@@ -113,23 +81,30 @@ fn least_step_first(rt: HostRuntime) -> Result<(), Fail> {
         SlowStep::Right(CellOp::Sub, 1),
         SlowStep::Right(CellOp::Mul, 2),
     ];
-    let answer = chain_of(alloc, &table, &steps)?;
-    same(&rt, &answer, &Outcome::Fault(0, 2, 1));
-    Ok(())
+    answers(
+        &rt,
+        alloc,
+        &table,
+        Call::Chain(&steps),
+        &Outcome::Fault(0, 2, 1),
+    )
 }
 
+// By floor, with the divisor's sign in the remainder.
 #[test]
 fn division_by_floor(rt: HostRuntime) -> Result<(), Fail> {
     let alloc = rt.alloc();
     let cells = Cells::of(alloc, 2, 1, &[7, -7])?;
     for kind in 0..4usize {
         let table = grouped(alloc, &cells, Grouping::One, kind, false)?;
-        let halves = SlowStep::Right(CellOp::Div, 2);
-        gives(&rt, alloc, &table, &[halves], &[3, -4])?;
-        let parity = SlowStep::Right(CellOp::Mod, 2);
-        gives(&rt, alloc, &table, &[parity], &[1, 1])?;
-        let negative = SlowStep::Right(CellOp::Mod, -2);
-        gives(&rt, alloc, &table, &[negative], &[-1, -1])?;
+        for (op, divisor, results) in [
+            (CellOp::Div, 2, [3, -4]),
+            (CellOp::Mod, 2, [1, 1]),
+            (CellOp::Mod, -2, [-1, -1]),
+        ] {
+            let step = [SlowStep::Right(op, divisor)];
+            gives(&rt, alloc, &table, Call::Chain(&step), (2, 1), &results)?;
+        }
     }
     Ok(())
 }
@@ -143,13 +118,16 @@ fn two_by_two(alloc: Global, kind: usize) -> Result<Coded<Entry>, Fail> {
 #[test]
 fn maps_of_two_by_two(rt: HostRuntime) -> Result<(), Fail> {
     let alloc = rt.alloc();
+    let is_four = [SlowStep::Right(CellOp::Eq, 4)];
     for kind in 0..4usize {
         let table = two_by_two(alloc, kind)?;
-        let less = row_of(alloc, &table, CellOp::Sub, &[1, 2])?;
-        same(&rt, &less, &Outcome::Cells(numbers(alloc, &[0, 0, 2, 2])?));
-        gives(&rt, alloc, &table, &[SlowStep::Square], &[1, 4, 9, 16])?;
-        let is_four = SlowStep::Right(CellOp::Eq, 4);
-        gives(&rt, alloc, &table, &[is_four], &[0, 0, 0, 1])?;
+        for (call, cells) in [
+            (Call::Row(CellOp::Sub, &[1, 2]), [0, 0, 2, 2]),
+            (Call::Chain(&[SlowStep::Square]), [1, 4, 9, 16]),
+            (Call::Chain(&is_four), [0, 0, 0, 1]),
+        ] {
+            gives(&rt, alloc, &table, call, (2, 2), &cells)?;
+        }
     }
     Ok(())
 }
@@ -159,14 +137,36 @@ fn aggregates_of_two_by_two(rt: HostRuntime) -> Result<(), Fail> {
     let alloc = rt.alloc();
     for kind in 0..4usize {
         let table = two_by_two(alloc, kind)?;
-        has(&rt, alloc, &col_least(alloc, &table)?, &[1, 2])?;
-        has(&rt, alloc, &col_greatest(alloc, &table)?, &[3, 4])?;
-        has(&rt, alloc, &row_least(alloc, &table)?, &[1, 3])?;
-        has(&rt, alloc, &row_greatest(alloc, &table)?, &[2, 4])?;
-        has(&rt, alloc, &col_sums_of(alloc, &table)?, &[4, 6])?;
-        has(&rt, alloc, &row_sums_of(alloc, &table)?, &[3, 7])?;
-        let ends = [least(&table), greatest(&table), sum_of(&table)?];
-        assert!(rt; ends.as_slice() == numbers(alloc, &[1, 4, 10])?.as_slice());
+        for (fold, total, rows, columns) in [
+            (Fold::Sum, 10, [3, 7], [4, 6]),
+            (Fold::Least, 1, [1, 3], [1, 2]),
+            (Fold::Greatest, 4, [2, 4], [3, 4]),
+        ] {
+            gives(
+                &rt,
+                alloc,
+                &table,
+                Call::Of(fold, Lines::All),
+                (1, 1),
+                &[total],
+            )?;
+            gives(
+                &rt,
+                alloc,
+                &table,
+                Call::Of(fold, Lines::Rows),
+                (2, 1),
+                &rows,
+            )?;
+            gives(
+                &rt,
+                alloc,
+                &table,
+                Call::Of(fold, Lines::Columns),
+                (1, 2),
+                &columns,
+            )?;
+        }
     }
     Ok(())
 }

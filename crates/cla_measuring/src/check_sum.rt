@@ -32,6 +32,15 @@ impl CheckSum {
         }
         self.add_byte(b'\n');
     }
+
+    /// The values of a group's tuples.
+    pub fn add_values<N: Number, G: Group<N>>(&mut self, group: &G) {
+        for k in 0..group.tuples() {
+            for c in 0..group.width() {
+                self.add(group.value(k, c).wide());
+            }
+        }
+    }
 }
 
 /// The check sum of these numbers.
@@ -55,10 +64,15 @@ pub fn sum_of_codes(codes: &[u32]) -> u64 {
 /// The check sum of the values of a group's tuples.
 pub fn sum_of_values<N: Number, G: Group<N>>(group: &G) -> u64 {
     let mut sum = CheckSum::new();
-    for k in 0..group.tuples() {
-        for c in 0..group.width() {
-            sum.add(group.value(k, c).wide());
-        }
+    sum.add_values(group);
+    sum.value
+}
+
+/// The check sum of these numbers.
+pub fn sum_of_numbers<N: Number>(numbers: &[N]) -> u64 {
+    let mut sum = CheckSum::new();
+    for number in numbers {
+        sum.add(number.wide());
     }
     sum.value
 }

@@ -1,16 +1,19 @@
-//! Why the program stops.
+//! Why a program that measures stops.
 
-use cla_num::Memory;
+use cla_num::{Memory, OpFault, Refused};
 use std::alloc::{AllocError, AllocFailed};
 use std::io;
 
-/// Why the program stops.
+/// Why a program that measures stops.
 #[derive(Debug, Drop)]
 pub enum Stop {
-    /// The words aren't as `Task` says.
+    /// The words aren't those of a task.
     Words,
-    /// Some tuple has no row, or there is no group of this size.
+    /// Some tuple has no row, or there is no group or table of this size.
     Codes,
+
+    /// A call refused its operands.
+    Refused,
     Memory,
     /// No time or words from the system, or a failed write.
     System,
@@ -37,5 +40,17 @@ impl<T: Drop> From<AllocFailed<T>> for Stop {
 impl From<io::Error> for Stop {
     fn from(_error: io::Error) -> Stop {
         Stop::System
+    }
+}
+
+impl From<OpFault> for Stop {
+    fn from(_fault: OpFault) -> Stop {
+        Stop::Refused
+    }
+}
+
+impl From<Refused> for Stop {
+    fn from(_refused: Refused) -> Stop {
+        Stop::Refused
     }
 }
