@@ -11,7 +11,7 @@ ghost use Rattle.cla_cocode.specs.Kept.{AreCounted, columns_of, kept_seen};
 
 use crate::choice::choose;
 use crate::cut::{Cut, LayoutGroup};
-use crate::kept::{Kept, alone, together};
+use crate::kept::{Kept, alone, take_in};
 use cla_layout::Kind;
 use cla_num::{Dense, Memory, Number};
 use std::alloc::Global;
@@ -74,8 +74,7 @@ fn add_column<N: Number>(
     let single = alone(alloc, m, column)?;
     let best = choose(alloc, groups, &single)?;
     if best.saving > 0 {
-        let joined = together(alloc, &groups[best.place], &single, column)?;
-        groups[best.place] = joined;
+        take_in(alloc, &mut groups[best.place], &single, column)?;
     } else {
         groups.push(single)?;
     }

@@ -65,6 +65,17 @@ fn equal_columns_are_one_group(rt: HostRuntime) -> Result<(), Fail> {
     Ok(())
 }
 
+// A head of 5 bytes, 4 for each column, and 5 before the lists, of which zeros have none.
+#[test]
+fn most_columns_are_one_group(rt: HostRuntime) -> Result<(), Fail> {
+    let cells = vec![in rt.alloc(); 0; 65536]?;
+    let m = matrix(rt.alloc(), 1, 65536, &cells)?;
+    let (cut, bytes) = packed(rt.alloc(), &m)?;
+    one_group(&rt, &cut, Kind::Offsets, 65536, 262154);
+    assert_eq!(rt; bytes, 262174);
+    Ok(())
+}
+
 #[test]
 fn many_columns_are_not_grouped(rt: HostRuntime) -> Result<(), Fail> {
     let cells = vec![in rt.alloc(); 0; 65537]?;

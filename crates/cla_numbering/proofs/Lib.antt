@@ -1,3 +1,4 @@
 pub mod TableLemmas
 pub mod ColumnLemmas
 pub mod MapLemmas
+pub mod GatherLemmas

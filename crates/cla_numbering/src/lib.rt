@@ -3,6 +3,7 @@
 #![tactic(auto)]
 
 mod column;
+mod gather;
 mod map;
 mod numbered;
 mod pairs;
