@@ -2,4 +2,10 @@
 #![tactic(auto)]
 
 #[cfg(test)]
+mod generated;
+#[cfg(test)]
+mod generated_tests;
+#[cfg(test)]
 mod product_tests;
+#[cfg(test)]
+mod tables;

@@ -1,97 +1,32 @@
-//! Products of small tables in groups of each kind, plain and flipped, and of a table of many rows.
+//! Products of small tables in groups of each kind, plain and flipped, and of a table of many rows: the
+//! values and the counts were found by hand.
 
-ghost use Rattle.std.specs.Prelude.{◌≡◌};
-
-use cla_checked_tables::{Entry, group_of, numbers, table_of};
-use cla_coded::{AnyGroup, Coded, Part};
+use crate::tables::{
+    Answer, GREATEST, KINDS, left_of, matrix, part_of, product_of, right_of, self_product_of,
+};
+use cla_checked_tables::{Entry, numbers, table_of};
+use cla_coded::Coded;
 use cla_group::Kind;
-use cla_num::{Dense, Meter, Refused};
-use cla_prod::{left, product, right, self_product};
 use std::alloc::Global;
 use std::process::Abort;
 use std::test::Fail;
-
-const KINDS: [Kind; 4] = [Kind::Plain, Kind::Codes, Kind::Offsets, Kind::Runs];
-
-const MOST_CELLS: u64 = 1 << 26;
-
-const GREATEST: i64 = 140737488355327;
-
-// A product, and how many multiplications it took.
-type Product = (Dense<Entry>, u128);
 
 // It is the matrix of these cells, and it took so many multiplications.
 fn is(
     rt: &impl Abort,
     alloc: Global,
-    product: Product,
+    answer: Answer,
     cells: &[i64],
     mults: u128,
 ) -> Result<(), Fail> {
-    let (m, made) = product;
-    assert_eq!(rt; made, mults);
-    assert!(rt; m.cells() == numbers(alloc, cells)?.as_slice());
-    Ok(())
-}
-
-fn right_of(alloc: Global, a: &Coded<Entry>, b: &Dense<Entry>) -> Result<Product, Fail> {
-    if a.cols() != b.rows() || u64::from(a.rows()) * u64::from(b.cols()) > MOST_CELLS {
-        return Err(Fail::new("no product"));
+    match answer {
+        Answer::Product(m, made) => {
+            assert_eq!(rt; made, mults);
+            assert!(rt; m.cells() == numbers(alloc, cells)?.as_slice());
+            Ok(())
+        }
+        Answer::Fault(..) => Err(Fail::new("a fault")),
     }
-    let mut meter = Meter::new();
-    let m = right(alloc, a, b, &mut meter)?;
-    Ok((m, meter.mults()))
-}
-
-fn left_of(alloc: Global, a: &Dense<Entry>, b: &Coded<Entry>) -> Result<Product, Fail> {
-    if a.cols() != b.rows() || u64::from(a.rows()) * u64::from(b.cols()) > MOST_CELLS {
-        return Err(Fail::new("no product"));
-    }
-    let mut meter = Meter::new();
-    let m = left(alloc, a, b, &mut meter)?;
-    Ok((m, meter.mults()))
-}
-
-fn product_of(alloc: Global, a: &Coded<Entry>, b: &Coded<Entry>) -> Result<Product, Fail> {
-    if a.cols() != b.rows() || u64::from(a.rows()) * u64::from(b.cols()) > MOST_CELLS {
-        return Err(Fail::new("no product"));
-    }
-    let mut meter = Meter::new();
-    let m = product(alloc, a, b, &mut meter)?;
-    Ok((m, meter.mults()))
-}
-
-fn self_product_of(alloc: Global, x: &Coded<Entry>) -> Result<Product, Fail> {
-    if x.flipped() || u64::from(x.cols()) * u64::from(x.cols()) > MOST_CELLS {
-        return Err(Fail::new("no product"));
-    }
-    let mut meter = Meter::new();
-    let m = self_product(alloc, x, &mut meter)?;
-    Ok((m, meter.mults()))
-}
-
-fn matrix(alloc: Global, rows: u32, cols: u32, cells: &[i64]) -> Result<Dense<Entry>, Fail> {
-    if rows == 0 || cols == 0 || cells.len() as u64 != u64::from(rows) * u64::from(cols) {
-        return Err(Fail::new("no matrix"));
-    }
-    if cells.len() as u64 > MOST_CELLS {
-        return Err(Fail::new("too many cells"));
-    }
-    Ok(Dense::new(rows, cols, numbers(alloc, cells)?))
-}
-
-fn part_of(
-    alloc: Global,
-    kind: Kind,
-    columns: &[u32],
-    codes: &[u32],
-    values: &[i64],
-) -> Result<Part<AnyGroup<Entry>>, Fail> {
-    let width = u32::try_from(columns.len())?;
-    Ok(Part {
-        columns: Vec::from_slice(alloc, columns)?,
-        group: group_of(alloc, kind, width, codes, values)?,
-    })
 }
 
 // Two columns of 1000 rows, both 1, 2, 1, 2 and so on, in one group or in two.
@@ -206,23 +141,6 @@ fn the_cheaper_side(rt: HostRuntime) -> Result<(), Fail> {
     )
 }
 
-// The step, row and column of an operator's fault.
-fn place_of(refused: Refused) -> Result<(u32, u32, u32), Fail> {
-    match refused {
-        Refused::Op(fault) => Ok((fault.op, fault.row, fault.col)),
-        Refused::Memory => Err(Fail::new("no memory")),
-    }
-}
-
-// Where a product has its fault.
-fn fault_of(alloc: Global, a: &Coded<Entry>, b: &Dense<Entry>) -> Result<(u32, u32, u32), Fail> {
-    if a.cols() != b.rows() || u64::from(a.rows()) * u64::from(b.cols()) > MOST_CELLS {
-        return Err(Fail::new("no product"));
-    }
-    let mut meter = Meter::new();
-    place_of(right(alloc, a, b, &mut meter).err().ok_or("a product")?)
-}
-
 // The rows (0, 2) and (2, 0) by the matrix of the greatest number, 1, 1 and the greatest: the first entry
 // row by row that isn't in range is in row 1 and column 2, and that column by column in row 2 and column 1.
 #[test]
@@ -232,7 +150,10 @@ fn first_entry_out_of_range(rt: HostRuntime) -> Result<(), Fail> {
     parts.push(part_of(alloc, Kind::Codes, &[0, 1], &[0, 1], &[0, 2, 2, 0])?)?;
     let x = table_of(alloc, 2, 2, false, parts)?;
     let b = matrix(alloc, 2, 2, &[GREATEST, 1, 1, GREATEST])?;
-    assert_eq!(rt; fault_of(alloc, &x, &b)?, (0, 1, 2));
+    match right_of(alloc, &x, &b)? {
+        Answer::Fault(op, row, col) => assert_eq!(rt; (op, row, col), (0, 1, 2)),
+        Answer::Product(..) => return Err(Fail::new("a product")),
+    }
     Ok(())
 }
 
