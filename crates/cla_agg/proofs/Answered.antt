@@ -40,10 +40,12 @@ abbrev pub cells_at : ℕ → List ℤ → Entry
 cells_at cols cells i j = at cells (i * cols + j)
 
 pub all_numbers : (bits rows cols : ℕ) (cells : List ℤ) → IsShaped rows cols cells
-    → ((p : ℕ) → p < length cells → InRange bits (at cells p)) → fault_of bits rows cols (exactly (cells_at cols cells)) ≡ None
+    → ((p : ℕ) → p < length cells → InRange bits (at cells p)) → fault_of bits rows cols (exactly (cells_at cols cells))
+    ≡ None
 all_numbers bits rows cols cells shape ranged =
     no_fault bits rows cols (exactly (cells_at cols cells)) shape.a_col (λ i j row col.
-    good bits (at cells (i * cols + j)) (ranged (i * cols + j) (omega (arith, shape.count, cell_within rows cols i j row col))))
+    good bits (at cells (i * cols + j))
+    (ranged (i * cols + j) (omega (arith, shape.count, cell_within rows cols i j row col))))
 
 pub first_out : (bits rows cols : ℕ) (cells : List ℤ) (p : ℕ) → IsShaped rows cols cells → p < length cells
     → ((q : ℕ) → q < p → InRange bits (at cells q)) → (InRange bits (at cells p) → ⊥)
@@ -59,7 +61,8 @@ first_out bits rows cols cells p shape there before out =
       col = omega (arith, shape.a_col);
       faulty = fails;
       least = λ r c w row col wrong. elim (cases_lt (r * cols + c) p) [
-        | inl early ↦ absurd (none_of w (sym (good bits (at cells (r * cols + c)) (before (r * cols + c) early)) ∙ wrong))
+        | inl early ↦ absurd (none_of w (sym (good bits (at cells (r * cols + c)) (before (r * cols + c) early))
+            ∙ wrong))
         | inr late ↦ omega (arith, late, whole)
       ];
     })
@@ -70,15 +73,18 @@ pub kept_ranged : {N : Type 0} (bits : ℕ) (value : N → ℤ) → ((x : N) →
     → (numbers : List N) (cells : List ℤ) (p : ℕ) → p ≤ length cells → map value numbers ≡ take p cells
     → (q : ℕ) → q < p → InRange bits (at cells q)
 kept_ranged bits value in_range numbers cells p within kept q before =
-    let count : length numbers ≡ p = sym (length-map numbers value) ∙ ap (λ (xs : List ℤ). length xs) kept ∙ length-take-le p cells within in
-    let is : at (map value numbers) q ≡ at cells q = ap (λ (xs : List ℤ). at xs q) kept ∙ get_or-take p cells q (pos 0) before in
+    let count : length numbers ≡ p = sym (length-map numbers value) ∙ ap (λ (xs : List ℤ). length xs) kept
+    ∙ length-take-le p cells within in
+    let is : at (map value numbers) q ≡ at cells q = ap (λ (xs : List ℤ). at xs q) kept
+    ∙ get_or-take p cells q (pos 0) before in
     rw is at (item_holds value (InRange bits) in_range numbers q (omega (arith, before, count)))
 
 pub not_true : false ≡ true → ⊥
 not_true same = cc
 
 -- cells are those of their rows and columns
-pub cells_are : (rows cols : ℕ) (cells : List ℤ) → IsShaped rows cols cells → cells ≡ row_by_row rows cols (cells_at cols cells)
+pub cells_are : (rows cols : ℕ) (cells : List ℤ) → IsShaped rows cols cells →
+    cells ≡ row_by_row rows cols (cells_at cols cells)
 cells_are rows cols cells shape =
     ext_get_or (pos 0) cells (row_by_row rows cols (cells_at cols cells))
     (shape.count ∙ sym (row_by_row-count rows cols (cells_at cols cells)))
@@ -97,13 +103,16 @@ same_cells rows (suc n) f g d same = row_by_row-same rows (suc n) f g d (omega a
 same_fault : (bits rows cols : ℕ) (f g : Entry) → ((i j : ℕ) → i < rows → j < cols → f i j ≡ g i j)
     → fault_of bits rows cols (exactly f) ≡ fault_of bits rows cols (exactly g)
 same_fault bits rows cols f g same =
-    ap (first_fault bits cols) (same_cells rows cols (exactly f) (exactly g) None (λ i j row col. ap (λ (v : ℤ). Some v) (same i j row col)))
+    ap (first_fault bits cols)
+    (same_cells rows cols (exactly f) (exactly g) None (λ i j row col. ap (λ (v : ℤ). Some v) (same i j row col)))
 
 -- the same exact entries have the same answer
 pub answer_same : (bits rows cols : ℕ) (f g : Entry) (result : Result Matrix Refused)
-    → ((i j : ℕ) → i < rows → j < cols → f i j ≡ g i j) → AnswersMatrix bits rows cols f result → AnswersMatrix bits rows cols g result
+    → ((i j : ℕ) → i < rows → j < cols → f i j ≡ g i j) → AnswersMatrix bits rows cols f result →
+    AnswersMatrix bits rows cols g result
 answer_same bits rows cols f g (Ok m) same answer = (
-  answer.0 ∙ ap (λ (cells : List ℤ). record { rows = rows; cols = cols; cells = cells }) (same_cells rows cols f g (pos 0) same),
+  answer.0 ∙ ap (λ (cells : List ℤ). record { rows = rows; cols = cols; cells = cells })
+      (same_cells rows cols f g (pos 0) same),
   sym (same_fault bits rows cols f g same) ∙ answer.1,
 )
 answer_same bits rows cols f g (Err (Op fault)) same answer = sym (same_fault bits rows cols f g same) ∙ answer
@@ -143,7 +152,8 @@ col_extremes Before n rows cols a d is has = record {
       subst (IsExtreme Before (λ i. a i j) rows) (ap (at d.cells) place) (has.each j (omega (arith, lt, is))));
 }
 
-pub if_ok : {E : Type 0} (P Q : Matrix → Type 0) (result : Result Matrix E) → ((d : Matrix) → P d → Q d) → IfOk result P → IfOk result Q
+pub if_ok : {E : Type 0} (P Q : Matrix → Type 0) (result : Result Matrix E) → ((d : Matrix) → P d → Q d) →
+    IfOk result P → IfOk result Q
 if_ok P Q (Ok d) more holds = more d holds
 if_ok P Q (Err e) more holds = tt
 
@@ -161,9 +171,20 @@ pub line_count : (n rows cols : ℕ) → IsLine n rows cols → rows * cols ≡ 
 line_count n rows cols (inl (one, is)) = rw one (omega (arith, is))
 line_count n rows cols (inr (is, one)) = rw one (omega (arith, is))
 
-pub line_shape : {X : Type 0} (n rows cols : ℕ) (cells : List X) → 1 ≤ n → n ≤ most_cells → IsLine n rows cols → length cells ≡ rows * cols
+pub line_shape : {X : Type 0} (n rows cols : ℕ) (cells : List X) → 1 ≤ n → n ≤ most_cells → IsLine n rows cols →
+    length cells ≡ rows * cols
     → IsShaped rows cols cells
 line_shape n rows cols cells some few (inl (one, is)) count =
-    record { a_row = omega (arith, one); a_col = omega (arith, is, some); count = count; few = omega (arith, line_count n rows cols (inl (one, is)), few) }
+    record {
+      a_row = omega (arith, one);
+      a_col = omega (arith, is, some);
+      count = count;
+      few = omega (arith, line_count n rows cols (inl (one, is)), few);
+    }
 line_shape n rows cols cells some few (inr (is, one)) count =
-    record { a_row = omega (arith, is, some); a_col = omega (arith, one); count = count; few = omega (arith, line_count n rows cols (inr (is, one)), few) }
+    record {
+      a_row = omega (arith, is, some);
+      a_col = omega (arith, one);
+      count = count;
+      few = omega (arith, line_count n rows cols (inr (is, one)), few);
+    }

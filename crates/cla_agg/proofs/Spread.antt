@@ -59,18 +59,28 @@ pub record IsFirstOfRow (Before : ℤ → ℤ → Type 0) (parts : List LayoutPa
 abbrev pub IsPartRowFirst : (ℤ → ℤ → Type 0) → ℕ → LayoutPart → ℤ → Type 0
 IsPartRowFirst Before i part v = IsExtreme Before (cell_of part.codes part.tuples i) (length part.columns) v
 
-pub row_one : (Before : ℤ → ℤ → Type 0) (parts : List LayoutPart) (i : ℕ) (v : ℤ) → IsPartRowFirst Before i (part_at parts 0) v
+pub row_one : (Before : ℤ → ℤ → Type 0) (parts : List LayoutPart) (i : ℕ) (v : ℤ) →
+    IsPartRowFirst Before i (part_at parts 0) v
     → IsFirstOfRow Before parts i 1 v
 row_one Before parts i v first = record {
   reached = (0, first.reached.0, omega arith, first.reached.1, first.reached.2);
   before = λ q c lt col. (let is : q ≡ 0 = omega (arith, lt) in rw is (first.before c (rw is at col)));
 }
 
-pub row_more : (Before : ℤ → ℤ → Type 0) (choice : ℤ → ℤ → ℤ) → IsChoice Before choice → (parts : List LayoutPart) (i n : ℕ) (v u : ℤ)
-    → IsFirstOfRow Before parts i n v → IsPartRowFirst Before i (part_at parts n) u → IsFirstOfRow Before parts i (n + 1) (choice v u)
+pub row_more : (Before : ℤ → ℤ → Type 0) (choice : ℤ → ℤ → ℤ) → IsChoice Before choice →
+    (parts : List LayoutPart) (i n : ℕ) (v u : ℤ)
+    → IsFirstOfRow Before parts i n v → IsPartRowFirst Before i (part_at parts n) u →
+    IsFirstOfRow Before parts i (n + 1) (choice v u)
 row_more Before choice laws parts i n v u first next = record {
   reached = elim (laws.either v u) [
-    | inl old ↦ (first.reached.0, first.reached.1, omega (arith, first.reached.2), first.reached.3, first.reached.4 ∙ sym old)
+    | inl old ↦ (
+      first.reached.0,
+      first.reached.1,
+      omega (arith, first.reached.2),
+      first.reached.3,
+      first.reached.4
+          ∙ sym old,
+    )
     | inr new ↦ (n, next.reached.0, omega arith, next.reached.1, next.reached.2 ∙ sym new)
   ];
   before = λ q c lt col. elim (last_or_before n q lt) [
@@ -81,7 +91,8 @@ row_more Before choice laws parts i n v u first next = record {
 
 -- the first of all parts is the first of the row
 pub row_first : (Before : ℤ → ℤ → Type 0) (bits : ℕ) (layout : Layout) (i : ℕ) (v : ℤ) → IsWhole bits layout
-    → IsFirstOfRow Before layout.parts i (length layout.parts) v → IsExtreme Before (entry_in layout.parts i) layout.cols v
+    → IsFirstOfRow Before layout.parts i (length layout.parts) v →
+    IsExtreme Before (entry_in layout.parts i) layout.cols v
 row_first Before bits layout i v whole first =
     let q = first.reached.0 in
     let c = first.reached.1 in
@@ -103,32 +114,40 @@ row_first Before bits layout i v whole first =
     }
 
 -- an extreme of entries is in range
-pub extreme_small : (Before : ℤ → ℤ → Type 0) (bits : ℕ) (f : ℕ → ℤ) (n : ℕ) (v : ℤ) → ((i : ℕ) → i < n → InRange bits (f i)) → IsExtreme Before f n v
+pub extreme_small : (Before : ℤ → ℤ → Type 0) (bits : ℕ) (f : ℕ → ℤ) (n : ℕ) (v : ℤ) →
+    ((i : ℕ) → i < n → InRange bits (f i)) → IsExtreme Before f n v
     → InRange bits v
 extreme_small Before bits f n v small is = subst (InRange bits) is.reached.2 (small is.reached.0 is.reached.1)
 
 -- and so is one of a whole layout's row or column
-pub row_small : (Before : ℤ → ℤ → Type 0) (bits : ℕ) (layout : Layout) (i : ℕ) (v : ℤ) → IsWhole bits layout → i < layout.rows
+pub row_small : (Before : ℤ → ℤ → Type 0) (bits : ℕ) (layout : Layout) (i : ℕ) (v : ℤ) → IsWhole bits layout →
+    i < layout.rows
     → IsExtreme Before (entry_in layout.parts i) layout.cols v → InRange bits v
 row_small Before bits layout i v whole row is =
-    extreme_small Before bits (entry_in layout.parts i) layout.cols v (λ j col. entry_small bits layout i j whole row col) is
+    extreme_small Before bits (entry_in layout.parts i) layout.cols v
+    (λ j col. entry_small bits layout i j whole row col) is
 
-pub col_small : (Before : ℤ → ℤ → Type 0) (bits : ℕ) (layout : Layout) (j : ℕ) (v : ℤ) → IsWhole bits layout → j < layout.cols
+pub col_small : (Before : ℤ → ℤ → Type 0) (bits : ℕ) (layout : Layout) (j : ℕ) (v : ℤ) → IsWhole bits layout →
+    j < layout.cols
     → IsExtreme Before (λ i. entry_in layout.parts i j) layout.rows v → InRange bits v
 col_small Before bits layout j v whole col is =
-    extreme_small Before bits (λ i. entry_in layout.parts i j) layout.rows v (λ i row. entry_small bits layout i j whole row col) is
+    extreme_small Before bits (λ i. entry_in layout.parts i j) layout.rows v
+    (λ i row. entry_small bits layout i j whole row col) is
 
 -- one more place is written
-pub set_more : (P : ℕ → ℤ → Type 0) (into : List ℤ) (k : ℕ) (w : ℤ) → k < length into → P k w → ((t : ℕ) → t < k → P t (at into t))
+pub set_more : (P : ℕ → ℤ → Type 0) (into : List ℤ) (k : ℕ) (w : ℤ) → k < length into → P k w →
+    ((t : ℕ) → t < k → P t (at into t))
     → (t : ℕ) → t < k + 1 → P t (at (set into k w) t)
 set_more P into k w there is before t lt = elim (last_or_before k t lt) [
-  | inl last ↦ subst (λ (s : ℕ). P s (at (set into k w) s)) (sym last) (subst (P k) (sym (get_or-set_same into k w (pos 0) there)) is)
+  | inl last ↦ subst (λ (s : ℕ). P s (at (set into k w) s)) (sym last)
+      (subst (P k) (sym (get_or-set_same into k w (pos 0) there)) is)
   | inr earlier ↦ (let other : t ≡ k → ⊥ = λ same. omega (arith, same, earlier) in
       subst (P t) (sym (get_or-set_other into k t w (pos 0) other)) (before t earlier))
 ]
 
 -- the sum of a tuple's first values
-pub tuple_small : (bits width : ℕ) (codes : List ℕ) (tuples : List (List ℤ)) → IsGroup bits width codes tuples → IsSupported bits → (k n : ℕ)
+pub tuple_small : (bits width : ℕ) (codes : List ℕ) (tuples : List (List ℤ)) → IsGroup bits width codes tuples →
+    IsSupported bits → (k n : ℕ)
     → k < length tuples → n ≤ width → unsigned_abs (sum_to (value_of tuples k) n) < 2 ^ 127
 tuple_small bits width codes tuples is supported k n there within =
     omega (
@@ -140,23 +159,30 @@ tuple_small bits width codes tuples is supported k n there within =
     )
 
 -- a group's row is that of its part
-pub group_row : {G : Type 0} (bits rows : ℕ) (width : G → ℕ) (codes : G → List ℕ) (dictionary : G → List (List ℤ)) (part : Part G) (i : ℕ)
-    → IsGroup bits (width part.group) (codes part.group) (dictionary part.group) → IsPart bits rows (part_of codes dictionary part)
-    → row_sum (width part.group) (cell_of (codes part.group) (dictionary part.group)) i ≡ part_row i (part_of codes dictionary part)
+pub group_row : {G : Type 0} (bits rows : ℕ) (width : G → ℕ) (codes : G → List ℕ) (dictionary : G → List (List ℤ))
+    (part : Part G) (i : ℕ)
+    → IsGroup bits (width part.group) (codes part.group) (dictionary part.group) →
+    IsPart bits rows (part_of codes dictionary part)
+    → row_sum (width part.group) (cell_of (codes part.group) (dictionary part.group)) i
+    ≡ part_row i (part_of codes dictionary part)
 group_row bits rows width codes dictionary part i laws is =
     ap (sum_to (cell_of (codes part.group) (dictionary part.group) i)) (same_width _ _ _ _ _ laws is.group)
 
-pub group_row_first : {G : Type 0} (Before : ℤ → ℤ → Type 0) (bits : ℕ) (width : G → ℕ) (codes : G → List ℕ) (dictionary : G → List (List ℤ))
+pub group_row_first : {G : Type 0} (Before : ℤ → ℤ → Type 0) (bits : ℕ) (width : G → ℕ) (codes : G → List ℕ)
+    (dictionary : G → List (List ℤ))
     (m : TableOf G) (q : ℕ) (part : Part G) (i : ℕ) (v : ℤ)
-    → IsGroup bits (width part.group) (codes part.group) (dictionary part.group) → IsPartRead bits codes dictionary m q part
+    → IsGroup bits (width part.group) (codes part.group) (dictionary part.group) →
+    IsPartRead bits codes dictionary m q part
     → IsExtreme Before (cell_of (codes part.group) (dictionary part.group) i) (width part.group) v
     → IsPartRowFirst Before i (part_at (parts_of codes dictionary m.parts) q) v
 group_row_first Before bits width codes dictionary m q part i v laws read first =
     subst (λ (p : LayoutPart). IsPartRowFirst Before i p v) (sym read.same)
-    (subst (λ (w : ℕ). IsExtreme Before (cell_of (codes part.group) (dictionary part.group) i) w v) (same_width _ _ _ _ _ laws read.is.group) first)
+    (subst (λ (w : ℕ). IsExtreme Before (cell_of (codes part.group) (dictionary part.group) i) w v)
+    (same_width _ _ _ _ _ laws read.is.group) first)
 
 -- a place for each tuple, of one for each row
-pub tuple_places : (bits width : ℕ) (codes : List ℕ) (tuples : List (List ℤ)) → IsGroup bits width codes tuples → (places : List ℤ) (n : ℕ)
+pub tuple_places : (bits width : ℕ) (codes : List ℕ) (tuples : List (List ℤ)) → IsGroup bits width codes tuples →
+    (places : List ℤ) (n : ℕ)
     → n ≡ length tuples → length places ≡ length codes → length (take n places) ≡ n
 tuple_places bits width codes tuples is places n count rows =
     length-take-le n places (omega (arith, tuples_few bits width codes tuples is, count, rows))

@@ -5,7 +5,7 @@ use Rattle.cla_spec.specs.Matrix.{Matrix, entry}
 use Rattle.cla_num.specs.Fault.{fault_of, exactly}
 use Rattle.cla_num.specs.declared.fault.Refused.{Refused}
 use Rattle.cla_num.specs.declared.fault.Refused.TheVariants.{Op, Memory}
-use Rattle.cla_layout.specs.Groups.{at, cell_of}
+use Rattle.cla_layout.specs.Groups.{at, cell_of, value_of}
 use Rattle.cla_layout.specs.GroupLaws.{IsExtreme}
 use Rattle.cla_layout.specs.Layouts.{LayoutPart, column_at, has_column}
 use Rattle.cla_layout.proofs.Cells.{occurring}
@@ -60,3 +60,16 @@ AreAddedTo k part into = (c : ℕ) → c < length part.columns →
 pub record IsTupleAdded (k : ℕ) (part : LayoutPart) (old new : List ℤ) : Type 0 where
   pub added : AreAddedTo (k + 1) part new
   pub kept : (j : ℕ) → has_column part j ≡ false → at new j ≡ at old j
+
+-- of each column of a part a value is made and stands at the column's place; other places keep what they held
+pub record AreMade (Of : ℕ → ℤ → Type 0) (part : LayoutPart) (old new : List ℤ) : Type 0 where
+  pub made : (c : ℕ) → c < length part.columns → Of c (at new (column_at part.columns c))
+  pub kept : (j : ℕ) → has_column part j ≡ false → at new j ≡ at old j
+
+-- v is the first tuple's value in place c
+abbrev pub IsFirstValue : LayoutPart → ℕ → ℤ → Type 0
+IsFirstValue part c v = v ≡ value_of part.tuples 0 c
+
+-- v is the extreme of the first k tuples' values in place c
+abbrev pub IsChosen : (ℤ → ℤ → Type 0) → LayoutPart → ℕ → ℕ → ℤ → Type 0
+IsChosen Before part k c v = IsExtreme Before (λ l. value_of part.tuples l c) k v

@@ -1,9 +1,9 @@
 //! Sums and extremes of the columns of a base: by tuples, and how often each occurs.
 
-ghost use Rattle.std.specs.Prelude.{◌≡◌, ◌<◌, ◌*◌, ◌+ℤ◌, ℕ, pos, false, length};
+ghost use Rattle.std.specs.Prelude.{◌≡◌, ◌<◌, ◌+◌, ◌*◌, ◌+ℤ◌, ℕ, pos, false, length};
 ghost use Rattle.cla_num.specs.Bits.{IsSupported};
 ghost use Rattle.cla_num.specs.Counts.{AreBelow, kernel_bound, step_bound};
-ghost use Rattle.cla_layout.specs.Groups.{at, cell_of};
+ghost use Rattle.cla_layout.specs.Groups.{at};
 ghost use Rattle.cla_layout.specs.GroupLaws.{IsExtreme};
 ghost use Rattle.cla_layout.specs.Layouts.{IsPart, IsWhole, column_at, entry_in};
 ghost use Rattle.cla_layout.specs.Values.{values_of};
@@ -13,7 +13,7 @@ ghost use Rattle.cla_coded.specs.Tables.{layout_of};
 ghost use Rattle.cla_meaning.specs.Entries.{col_sum};
 ghost use Rattle.cla_meaning.specs.Counts.{HasMults};
 ghost use Rattle.cla_agg.specs.Sums.{group_bound};
-ghost use Rattle.cla_agg.specs.Lines.{IsSumOf, ArePlaced, AreAddedTo, IsTupleAdded};
+ghost use Rattle.cla_agg.specs.Lines.{IsSumOf, ArePlaced, AreAddedTo, IsTupleAdded, AreMade, IsFirstValue, IsChosen};
 
 use crate::order::Order;
 use cla_coded::{Part, Table};
@@ -91,27 +91,45 @@ pub(crate) fn choose_in_columns<N: Number, G: Group<N>, O: Order<N>>(
     }
 }
 
-// Puts the extremes of a part's columns at their places.
+// Puts the extremes of a part's columns at their places, tuple by tuple.
 fn choose_in_part<N: Number, G: Group<N>, O: Order<N>>(part: &Part<G>, into: &mut [Wide])
     requires part { IsPart N.BITS (length (G.codes part.now.group)) (part_of G.codes G.dictionary part.now) }
     requires within { let columns = part.now.columns.items in
         (c : ℕ) → c < length columns → column_at columns c < length into.old }
     ensures { ArePlaced (IsExtreme O.before) (part_of G.codes G.dictionary part.now) into.old into.new }
 {
-    for c in 0..part.group.width() {
-        into[part.columns[c as usize] as usize] = first_of_column::<N, G, O>(&part.group, c).wide();
+    place_first(part, into);
+    for k in 1..part.group.tuples() {
+        choose_in_tuple::<N, G, O>(part, k, into);
     }
 }
 
-// The extreme of a column, from the tuples.
-fn first_of_column<N: Number, G: Group<N>, O: Order<N>>(g: &G, c: u32) -> N
-    requires { c < G.columns g.now }
-    ensures { let cell = cell_of (G.codes g.now) (G.dictionary g.now) in
-        IsExtreme O.before (λ i. cell i c) (length (G.codes g.now)) (N.value result) }
+// Puts the first tuple's values at the places of their columns.
+fn place_first<N: Number, G: Group<N>>(part: &Part<G>, into: &mut [Wide])
+    requires part { IsPart N.BITS (length (G.codes part.now.group)) (part_of G.codes G.dictionary part.now) }
+    requires within { let columns = part.now.columns.items in
+        (c : ℕ) → c < length columns → column_at columns c < length into.old }
+    ensures { let p = part_of G.codes G.dictionary part.now in AreMade (IsFirstValue p) p into.old into.new }
 {
-    let mut first = g.value(0, c);
-    for k in 1..g.tuples() {
-        first = O::chosen(first, g.value(k, c));
+    for c in 0..part.group.width() {
+        into[part.columns[c as usize] as usize] = part.group.value(0, c).wide();
     }
-    first
+}
+
+// Joins a tuple's values with the extremes of the tuples before it.
+fn choose_in_tuple<N: Number, G: Group<N>, O: Order<N>>(part: &Part<G>, k: u32, into: &mut [Wide])
+    requires part { IsPart N.BITS (length (G.codes part.now.group)) (part_of G.codes G.dictionary part.now) }
+    requires tuple { k < length (G.dictionary part.now.group) }
+    requires within { let columns = part.now.columns.items in
+        (c : ℕ) → c < length columns → column_at columns c < length into.old }
+    requires so_far { let columns = part.now.columns.items in
+        let part = part_of G.codes G.dictionary part.now in
+        (c : ℕ) → c < length columns → IsChosen O.before part k c (at into.old (column_at columns c)) }
+    ensures { let p = part_of G.codes G.dictionary part.now in
+        AreMade (IsChosen O.before p (k + 1)) p into.old into.new }
+{
+    for c in 0..part.group.width() {
+        let place = part.columns[c as usize] as usize;
+        into[place] = O::joined(into[place], part.group.value(k, c).wide());
+    }
 }

@@ -43,7 +43,8 @@ fn first_of_table<N: Number, G: Group<N>, O: Order<N>>(m: &Table<N, G>) -> N
 }
 
 fn first_of_group<N: Number, G: Group<N>, O: Order<N>>(g: &G) -> N
-    ensures { IsExtremeEntry O.before (length (G.dictionary g.now)) (G.columns g.now) (value_of (G.dictionary g.now)) (N.value result) }
+    ensures { IsExtremeEntry O.before (length (G.dictionary g.now)) (G.columns g.now) (value_of (G.dictionary g.now))
+        (N.value result) }
 {
     let mut first = first_of_tuple::<N, G, O>(g, 0);
     for k in 1..g.tuples() {

@@ -37,7 +37,8 @@ fn numbers_of<N: Number>(
     requires bits { IsSupported N.BITS }
     requires shape { IsShaped rows cols cells.now }
     requires none_yet { numbers.items ≡ [] }
-    ensures { MatchResult result (λ ns. AnswersCells N.BITS N.value rows cols cells.now (Ok ns.items)) (λ e. AnswersCells N.BITS N.value rows cols cells.now (Err e)) }
+    ensures { MatchResult result (λ ns. AnswersCells N.BITS N.value rows cols cells.now (Ok ns.items))
+        (λ e. AnswersCells N.BITS N.value rows cols cells.now (Err e)) }
 {
     for (place, exact) in cells.iter().enumerate() {
         match N::narrow(*exact) {

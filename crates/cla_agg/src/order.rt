@@ -20,6 +20,10 @@ pub(crate) trait Order<N: Number> {
     fn chosen(a: N, b: N) -> N
         ensures { N.value result ≡ choice (N.value a) (N.value b) };
 
+    /// The same of exact values.
+    fn joined(a: Wide, b: Wide) -> Wide
+        ensures { result ≡ choice a b };
+
     /// Each row's place becomes the one of itself and the part of the row's code that stands before. `parts`
     /// has an item for each tuple, and `into` one for each row.
     fn scatter<G: Group<N>>(g: &G, parts: &[Wide], into: &mut [Wide])
@@ -48,6 +52,10 @@ impl<N: Number> Order<N> for Rising {
         if b.wide() < a.wide() { b } else { a }
     }
 
+    fn joined(a: Wide, b: Wide) -> Wide {
+        a.min(b)
+    }
+
     fn scatter<G: Group<N>>(g: &G, parts: &[Wide], into: &mut [Wide]) {
         g.scatter_least(parts, into);
     }
@@ -64,6 +72,10 @@ impl<N: Number> Order<N> for Falling {
 
     fn chosen(a: N, b: N) -> N {
         if b.wide() < a.wide() { a } else { b }
+    }
+
+    fn joined(a: Wide, b: Wide) -> Wide {
+        a.max(b)
     }
 
     fn scatter<G: Group<N>>(g: &G, parts: &[Wide], into: &mut [Wide]) {

@@ -123,7 +123,8 @@ fn choose_in_group<N: Number, G: Group<N>, O: Order<N>>(
     requires rows { length into.old ≡ length (G.codes g.now) }
     requires scratch { length scratch.old ≡ length (G.codes g.now) }
     ensures { let cell = cell_of (G.codes g.now) (G.dictionary g.now) in
-        (i : ℕ) → i < length into.old → (v : ℤ) × IsExtreme O.before (cell i) (G.columns g.now) v × (at into.new i ≡ O.choice (at into.old i) v) }
+        (i : ℕ) → i < length into.old → (v : ℤ) × IsExtreme O.before (cell i) (G.columns g.now) v
+        × (at into.new i ≡ O.choice (at into.old i) v) }
 {
     let firsts = &mut scratch[..g.tuples() as usize];
     choose_in_tuples::<N, G, O>(g, firsts);

@@ -67,7 +67,8 @@ fn base_sum<N: Number, G: Group<N>>(m: &Table<N, G>, meter: &mut Meter) -> Wide
 fn group_sum<N: Number, G: Group<N>>(g: &G, meter: &mut Meter) -> Wide
     requires bits { IsSupported N.BITS }
     requires room { AreBelow group_bound meter.old }
-    ensures sum { result ≡ sum_of_entries (length (G.codes g.now)) (G.columns g.now) (cell_of (G.codes g.now) (G.dictionary g.now)) }
+    ensures sum { result ≡ sum_of_entries (length (G.codes g.now)) (G.columns g.now)
+        (cell_of (G.codes g.now) (G.dictionary g.now)) }
     ensures counts { HasMults (length (G.dictionary g.now) * G.columns g.now) meter.old meter.new }
 {
     let mut sum = Wide::zero();

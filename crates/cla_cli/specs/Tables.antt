@@ -15,8 +15,7 @@ loose_skeleton rows cols = record {
   rows = rows;
   cols = cols;
   flipped = false;
-  parts =
-      record { columns = range_with_len 0 cols; codes = range_with_len 0 rows } ∷ [];
+  parts = record { columns = range_with_len 0 cols; codes = range_with_len 0 rows } ∷ [];
 }
 
 abbrev pub IsLoose : SkeletonOf → Type 0

@@ -31,7 +31,7 @@ kept-rule m ks counted columns = kept-best m ks counted.each ∙ ap (map (in_bes
 pub kept-small : (m : Matrix) (n : ℕ) (ks : List Kept) (groups : List LayoutGroup) → AreCounted m n ks → map group_seen groups ≡ map kept_seen ks → All (λ g. g.bytes < 2 ^ 30) groups
 kept-small m n ks groups counted same k d there =
     let small : All (λ (g : GroupOf). g.bytes < 2 ^ 30) (map group_seen groups) =
-    subst (λ l. All (λ (g : GroupOf). g.bytes < 2 ^ 30) l) (sym same) (All-map (λ (g : GroupOf). g.bytes < 2 ^ 30) kept_seen ks (λ i e h. (counted.each i e h).fit)) in
+    subst (λ l. All (λ (g : GroupOf). g.bytes < 2 ^ 30) l) (sym same) (All-map (λ (g : GroupOf). g.bytes < 2 ^ 30) kept_seen ks (λ i e h. (counted.each i e h).fit.small)) in
     let here = small k (group_seen d) (omega (arith, there, length-map groups group_seen)) in
     omega (arith, here, ap (λ (g : GroupOf). g.bytes) (get_or-map group_seen groups k d (group_seen d) there))
 

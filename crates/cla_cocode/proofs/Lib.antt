@@ -7,3 +7,4 @@ mod Finished
 mod Unions
 mod PartLemmas
 mod Partition
+mod Forms

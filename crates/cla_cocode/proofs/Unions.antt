@@ -1,5 +1,5 @@
 -- The union of two groups of columns, by the pairs of their codes.
-use Rattle.std.proofs.Common.{◌≡◌, ℕ, zero, suc, ◌+◌, ◌-◌, ◌<◌, ◌≤◌, Bool, true, false, cond, not, ◌&&◌, ◌||◌, ◌==◌, nat_lt, lt-ltb, eqb-true, eq-eqb, List, length, get_or, refl, sym, ap, ◌∙◌, subst, arith, Option, Some, None, inl, inr}
+use Rattle.std.proofs.Common.{◌≡◌, ℕ, zero, suc, ◌+◌, ◌-◌, ◌<◌, ◌≤◌, Bool, true, false, cond, not, ◌&&◌, ◌||◌, ◌==◌, nat_lt, lt-ltb, max, eqb-true, eq-eqb, List, length, get_or, refl, sym, ap, ◌∙◌, subst, arith, Option, Some, None, inl, inr}
 use Rattle.std.specs.List.{position_or_len, range_with_len}
 use Rattle.std.specs.Cmp.{IsEquivalence}
 use Rattle.std.proofs.lemmas.Cmp.{nat_eq_equiv}
@@ -17,7 +17,7 @@ use Rattle.cla_grouping.proofs.JoinLemmas.{same-code}
 use Rattle.cla_grouping.proofs.TupleLemmas.{IsClass, class-code, length-codes_by}
 use Rattle.cla_grouping.proofs.Numbered.{tuples_by-are}
 use Rattle.cla_stats.specs.Coded.{CanJoin}
-use Rattle.cla_cocode.specs.Weighing.{is_listed_pair, begins_pair, pairs_of, floor_of, with_distinct_of}
+use Rattle.cla_cocode.specs.Weighing.{is_listed_pair, begins_pair, pairs_of, floor_of, least_of, with_distinct_of}
 use Rattle.cla_cocode.proofs.FigureLemmas.{rows_more, figures-small}
 
 and_left : (a b : Bool) → (a && b) ≡ true → a ≡ true
@@ -198,8 +198,92 @@ floor-small a b first second pair =
       listed_runs = all.listed_runs;
     }
 
+-- a test that implies another passes no more rows
+implied-once : (s t : Bool) → (s ≡ true → t ≡ true) → once s ≤ once t
+implied-once true t h = let is : once t ≡ 1 = ap once (h refl) in omega (arith, is)
+implied-once false t h = omega arith
+
+rows-implied : (p q : ℕ → Bool) (n : ℕ) → ((i : ℕ) → i < n → p i ≡ true → q i ≡ true) → length (rows_where p n) ≤ length (rows_where q n)
+rows-implied p q zero h = omega arith
+rows-implied p q (suc n) h =
+    let next : suc n ≡ n + 1 = omega arith in
+    omega (
+      arith,
+      ap (λ m. length (rows_where p m)) next ∙ rows_more p n,
+      ap (λ m. length (rows_where q m)) next ∙ rows_more q n,
+      rows-implied p q n (λ i row. h i (omega (arith, row))),
+      implied-once (p n) (q n) (h n (omega arith)),
+    )
+
+not-left : (x y : Bool) → not x ≡ true → not (x && y) ≡ true
+not-left true y h = absurd (cc)
+not-left false y h = refl
+
+not-right : (x y : Bool) → not y ≡ true → not (x && y) ≡ true
+not-right true y h = h
+not-right false y h = refl
+
+or-left : (z x y : Bool) → (z || not x) ≡ true → (z || not (x && y)) ≡ true
+or-left true x y h = refl
+or-left false x y h = not-left x y h
+
+or-right : (z x y : Bool) → (z || not y) ≡ true → (z || not (x && y)) ≡ true
+or-right true x y h = refl
+or-right false x y h = not-right x y h
+
+-- what is listed of a part is listed of the union, and a run of a part begins one of the union
+listed-left : (a b : TuplesOf) (i : ℕ) → is_listed a.zero a.codes i ≡ true → is_listed_pair a.zero a.codes b.zero b.codes i ≡ true
+listed-left a b i h = not-left (is_rest a.zero (code_of a.codes i)) (is_rest b.zero (code_of b.codes i)) h
+
+listed-right : (a b : TuplesOf) (i : ℕ) → is_listed b.zero b.codes i ≡ true → is_listed_pair a.zero a.codes b.zero b.codes i ≡ true
+listed-right a b i h = not-right (is_rest a.zero (code_of a.codes i)) (is_rest b.zero (code_of b.codes i)) h
+
+begins-left : (a b : TuplesOf) (i : ℕ) → begins_listed a.zero a.codes i ≡ true → begins_pair a.zero a.codes b.zero b.codes i ≡ true
+begins-left a b i h =
+    both_true (is_listed_pair a.zero a.codes b.zero b.codes i) (i == 0 || not (same_pair a.codes b.codes (i - 1) i))
+    (listed-left a b i (and_left (is_listed a.zero a.codes i) (begins_run a.codes (code_of a.codes i) i) h))
+    (or-left (i == 0) (code_of a.codes (i - 1) == code_of a.codes i) (code_of b.codes (i - 1) == code_of b.codes i)
+    (and_right (code_of a.codes i == code_of a.codes i) _ (and_right (is_listed a.zero a.codes i) (begins_run a.codes (code_of a.codes i) i) h)))
+
+begins-right : (a b : TuplesOf) (i : ℕ) → begins_listed b.zero b.codes i ≡ true → begins_pair a.zero a.codes b.zero b.codes i ≡ true
+begins-right a b i h =
+    both_true (is_listed_pair a.zero a.codes b.zero b.codes i) (i == 0 || not (same_pair a.codes b.codes (i - 1) i))
+    (listed-right a b i (and_left (is_listed b.zero b.codes i) (begins_run b.codes (code_of b.codes i) i) h))
+    (or-right (i == 0) (code_of a.codes (i - 1) == code_of a.codes i) (code_of b.codes (i - 1) == code_of b.codes i)
+    (and_right (code_of b.codes i == code_of b.codes i) _ (and_right (is_listed b.zero b.codes i) (begins_run b.codes (code_of b.codes i) i) h)))
+
+both-most : (a b m : ℕ) → a ≤ m → b ≤ m → max a b ≤ m
+both-most a b m h k = omega (arith, h, k)
+
+pub least-rows : (a b : TuplesOf) → length b.codes ≡ length a.codes → (least_of a b).listed_rows ≤ (floor_of a b).listed_rows
+least-rows a b same =
+    both-most (figures_of a).listed_rows (figures_of b).listed_rows (floor_of a b).listed_rows
+    (rows-implied (is_listed a.zero a.codes) (is_listed_pair a.zero a.codes b.zero b.codes) (length a.codes) (λ i row. listed-left a b i))
+    (subst (λ n. length (rows_where (is_listed b.zero b.codes) n) ≤ (floor_of a b).listed_rows) (sym same)
+    (rows-implied (is_listed b.zero b.codes) (is_listed_pair a.zero a.codes b.zero b.codes) (length a.codes) (λ i row. listed-right a b i)))
+
+pub least-runs : (a b : TuplesOf) → length b.codes ≡ length a.codes → (least_of a b).listed_runs ≤ (floor_of a b).listed_runs
+least-runs a b same =
+    both-most (figures_of a).listed_runs (figures_of b).listed_runs (floor_of a b).listed_runs
+    (rows-implied (begins_listed a.zero a.codes) (begins_pair a.zero a.codes b.zero b.codes) (length a.codes) (λ i row. begins-left a b i))
+    (subst (λ n. length (rows_where (begins_listed b.zero b.codes) n) ≤ (floor_of a b).listed_runs) (sym same)
+    (rows-implied (begins_listed b.zero b.codes) (begins_pair a.zero a.codes b.zero b.codes) (length a.codes) (λ i row. begins-right a b i)))
+
+pub least-small : (a b : TuplesOf) → AreTuples a → AreTuples b → CanJoin a b → AreSmall (least_of a b)
+least-small a b first second pair =
+    let floor = floor-small a b first second pair in
+    record {
+      wide = floor.wide;
+      tall = floor.tall;
+      cells = floor.cells;
+      distinct = omega arith;
+      listed = omega arith;
+      listed_rows = omega (arith, least-rows a b pair.rows, floor.listed_rows);
+      listed_runs = omega (arith, least-runs a b pair.rows, floor.listed_runs);
+    }
+
 -- where there are too many pairs the union is no smaller than the target
-pub past-union : (a b : TuplesOf) (target most : ℕ) → AreTuples a → AreTuples b → CanJoin a b → IsPast (floor_of a b) target most → most < pairs_of a b
+pub past-union : (a b : TuplesOf) (target most : ℕ) → AreTuples a → AreTuples b → CanJoin a b → IsPast (least_of a b) target most → most < pairs_of a b
     → target ≤ best_bytes (figures_of (joined a b))
 past-union a b target most first second pair past more =
     let union = with_distinct_of (floor_of a b) (pairs_of a b) in
@@ -210,8 +294,8 @@ past-union a b target most first second pair past more =
       rows = refl;
       distinct = omega arith;
       listed = omega arith;
-      listed_rows = omega arith;
-      listed_runs = omega arith;
+      listed_rows = least-rows a b pair.rows;
+      listed_runs = least-runs a b pair.rows;
     }) small.distinct (one_less (nat_lt (floor_of a b).listed_rows (length a.codes)) (pairs_of a b)) more)
   where
     one_less : (t : Bool) (d : ℕ) → d ≤ cond t (d - 1) d + 1

@@ -7,9 +7,10 @@ use Rattle.cla_grouping.specs.Grouping.{GroupOf, best_in, choice_of}
 use Rattle.cla_cocode.specs.declared.kept.Kept.{Kept}
 use Rattle.cla_cocode.specs.declared.choice.Chosen.{Chosen}
 
--- bytes that may be added
-abbrev pub IsFit : Kept → Type 0
-IsFit k = k.best.bytes < 2 ^ 30
+-- bytes that may be added, and the figures of the tuples
+pub record IsFit (k : Kept) : Type 0 where
+  pub small : k.best.bytes < 2 ^ 30
+  pub figures : k.figures ≡ figures_of k.tuples
 
 -- a group is counted from the matrix
 pub record IsCounted (m : Matrix) (k : Kept) : Type 0 where

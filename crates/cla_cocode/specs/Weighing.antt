@@ -1,9 +1,10 @@
 -- What the union of two groups of columns would be, by the pairs of their codes.
-use Rattle.std.specs.Prelude.{◌≡◌, ℕ, ◌+◌, ◌-◌, ◌<◌, ◌≤◌, List, length, Bool, not, ◌&&◌, ◌||◌, ◌==◌, nat_lt, Option, Some, None, if◌then◌else◌}
+use Rattle.std.specs.Prelude.{◌≡◌, ℕ, ◌+◌, ◌-◌, ◌<◌, ◌≤◌, List, length, Bool, not, ◌&&◌, ◌||◌, ◌==◌, nat_lt, max, Option, Some, None, if◌then◌else◌}
 use Rattle.cla_layout.specs.Groups.{code_of}
 use Rattle.cla_layout.specs.Listed.{is_rest, rows_where}
 use Rattle.cla_grouping.specs.Numbering.{same_pair, first_rows_by}
 use Rattle.cla_grouping.specs.Tuples.{TuplesOf}
+use Rattle.cla_grouping.specs.Sizes.{figures_of}
 use Rattle.cla_grouping.specs.declared.sizes.Figures.{Figures}
 
 -- a number of tuples, unless it is above the most that are asked for
@@ -44,4 +45,15 @@ abbrev pub with_distinct_of : Figures → ℕ → Figures
 with_distinct_of f distinct = record f {
   distinct = distinct;
   listed = if nat_lt f.listed_rows f.rows then distinct - 1 else distinct;
+}
+
+-- no more than the figures of the union: of the listed rows and of the runs it has no fewer than either part
+abbrev pub least_of : TuplesOf → TuplesOf → Figures
+least_of a b = record {
+  width = a.width + b.width;
+  rows = length a.codes;
+  distinct = 0;
+  listed = 0;
+  listed_rows = max (figures_of a).listed_rows (figures_of b).listed_rows;
+  listed_runs = max (figures_of a).listed_runs (figures_of b).listed_runs;
 }

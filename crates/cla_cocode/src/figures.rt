@@ -23,17 +23,18 @@ pub fn best(t: &Tuples) -> (Kind, u64)
     ensures value { let found = best_of (figures_of t.now) in result ≡ (found.kind, found.bytes) }
     ensures least { IsLeast (figures_of t.now) (record { kind = result.0; bytes = result.1 }) }
 {
-    let KindBytes { kind, bytes } = best_kind(t);
+    let KindBytes { kind, bytes } = best_kind(figures(t));
     (kind, bytes)
 }
 
-/// The same, as one value.
-pub(crate) fn best_kind(t: &Tuples) -> KindBytes
-    ensures value { result ≡ best_of (figures_of t.now) }
-    ensures least { IsLeast (figures_of t.now) result }
+/// The same of these figures, as one value.
+pub(crate) fn best_kind(f: Figures) -> KindBytes
+    requires { AreSmall f }
+    ensures value { result ≡ best_of f }
+    ensures least { IsLeast f result }
     ensures small { result.bytes < 2 ^ 30 }
 {
-    cla_grouping::best(figures(t))
+    cla_grouping::best(f)
 }
 
 /// The figures of columns with these tuples. It goes over the rows once.

@@ -6,18 +6,19 @@ ghost use Rattle.cla_stats.specs.Coded.{CanJoin};
 ghost use Rattle.cla_cocode.specs.Kept.{IsCounted, IsJoined, IsFit, code_saving};
 ghost use Rattle.cla_cocode.specs.Weighing.{SavingGives};
 
-use crate::figures::best_kind;
-use crate::weigh::{count, floor, with_distinct};
-use cla_grouping::{KindBytes, best, most_tuples};
+use crate::figures::{best_kind, figures};
+use crate::weigh::{count, floor, least_union, with_distinct};
+use cla_grouping::{Figures, KindBytes, best, most_tuples};
 use cla_num::{Dense, Memory, Number};
 use cla_stats::Tuples;
 use std::alloc::Global;
 
-/// Columns as one group, their tuples, and their best kind.
+/// Columns as one group, their tuples, the figures of these, and their best kind.
 #[derive(Drop)]
 pub struct Kept {
     pub columns: Vec<u32>,
     pub tuples: Tuples,
+    pub figures: Figures,
     pub best: KindBytes,
 }
 
@@ -29,10 +30,12 @@ pub(crate) fn alone<N: Number>(alloc: Global, m: &Dense<N>, column: u32) -> Resu
 {
     let columns = vec![in alloc; column]?;
     let tuples = Tuples::count(alloc, m, &columns)?;
-    let best = best_kind(&tuples);
+    let figures = figures(&tuples);
+    let best = best_kind(figures);
     Ok(Kept {
         columns,
         tuples,
+        figures,
         best,
     })
 }
@@ -50,17 +53,20 @@ pub(crate) fn together(
     let tuples = Tuples::join(alloc, &group.tuples, &single.tuples)?;
     let mut columns = Vec::from_slice(alloc, &group.columns)?;
     columns.push(column)?;
-    let best = best_kind(&tuples);
+    let figures = figures(&tuples);
+    let best = best_kind(figures);
     Ok(Kept {
         columns,
         tuples,
+        figures,
         best,
     })
 }
 
 /// The bytes that a group saves by taking in a column, or nothing where they are no more than `least`.
 /// The union is weighed by how many pairs of tuples there are and how many rows and runs are listed, and
-/// its codes are not written; with too many pairs it isn't even counted to the end.
+/// its codes are not written. It has no fewer listed rows and runs than either part, and with more pairs
+/// than could still save anything it isn't counted to the end.
 pub(crate) fn saving(
     alloc: Global,
     group: &Kept,
@@ -76,11 +82,12 @@ pub(crate) fn saving(
     if apart <= least {
         return Ok(None);
     }
-    let floor = floor(&group.tuples, &single.tuples);
-    let most = most_tuples(floor, apart - least);
+    let bound = least_union(&group.tuples, group.figures, &single.tuples, single.figures);
+    let most = most_tuples(bound, apart - least);
     let Some(distinct) = count(alloc, &group.tuples, &single.tuples, most)? else {
         return Ok(None);
     };
+    let floor = floor(&group.tuples, &single.tuples);
     let joined = best(with_distinct(floor, distinct));
     Ok(Some(apart.saturating_sub(joined.bytes)))
 }

@@ -3,10 +3,10 @@
 ghost use Rattle.std.specs.Prelude.{◌≡◌, ◌<◌, ◌≤◌, ◌&&◌, not, ℕ, length, if◌then◌else◌, IfOk};
 ghost use Rattle.cla_spec.specs.Matrix.{most_cells};
 ghost use Rattle.cla_layout.specs.Listed.{is_rest, rows_where};
-ghost use Rattle.cla_grouping.specs.Sizes.{AreSmall};
+ghost use Rattle.cla_grouping.specs.Sizes.{AreSmall, figures_of};
 ghost use Rattle.cla_grouping.specs.Tuples.{AreTuples};
 ghost use Rattle.cla_stats.specs.Coded.{CanJoin};
-ghost use Rattle.cla_cocode.specs.Weighing.{CountGives, is_listed_pair, begins_pair, floor_of, with_distinct_of};
+ghost use Rattle.cla_cocode.specs.Weighing.{CountGives, is_listed_pair, begins_pair, floor_of, least_of, with_distinct_of};
 ghost use Rattle.cla_cocode.specs.Weighing.{pairs_of};
 
 use crate::pairs::count_pairs;
@@ -20,6 +20,29 @@ use std::alloc::Global;
 pub struct Listed {
     pub rows: u32,
     pub runs: u32,
+}
+
+/// No more than the figures of a union, by those of its two parts.
+pub(crate) fn least_union(a: &Tuples, first: Figures, b: &Tuples, second: Figures) -> Figures
+    requires pair { CanJoin a.now b.now }
+    requires first { first ≡ figures_of a.now }
+    requires second { second ≡ figures_of b.now }
+    ensures value { result ≡ least_of a.now b.now }
+    ensures small { AreSmall result }
+    ensures first { AreTuples a.now }
+    ensures second { AreTuples b.now }
+{
+    // The codes tell that there are rows, and few cells.
+    let _ = a.codes();
+    let _ = b.codes();
+    Figures {
+        width: a.width() + b.width(),
+        rows: a.rows(),
+        distinct: 0,
+        listed: 0,
+        listed_rows: first.listed_rows.max(second.listed_rows),
+        listed_runs: first.listed_runs.max(second.listed_runs),
+    }
 }
 
 /// The figures of a union, but for its tuples, which are left at none. It goes over the rows once.

@@ -32,9 +32,11 @@ pub four_bytes : (n : ℕ) → 2 ^ 16 < n → least_code_bytes n ≡ 4
 four_bytes n many = grind (arith, nat_tests)
 
 -- a group of one code for each row is made of its codes and tuples, if the codes take the fewest bytes
-pub codes_from : (bytes width : ℕ) (codes : List ℕ) (tuples : List (List ℤ)) (columns : ℕ) (codes' : List ℕ) (tuples' : List (List ℤ)) →
+pub codes_from : (bytes width : ℕ) (codes : List ℕ) (tuples : List (List ℤ)) (columns : ℕ) (codes' : List ℕ)
+    (tuples' : List (List ℤ)) →
     least_code_bytes (length tuples) ≡ bytes → columns ≡ width → codes' ≡ codes → tuples' ≡ tuples →
-    IsGroupFrom kind.Codes width codes tuples (record { kind = kind.Codes; code_bytes = bytes; rest = None }) columns codes' tuples'
+    IsGroupFrom kind.Codes width codes tuples (record { kind = kind.Codes; code_bytes = bytes; rest = None }) columns
+    codes' tuples'
 codes_from bytes width codes tuples columns codes' tuples' least columns_are codes_are tuples_are = record {
   form_is = rw least refl;
   columns_are = columns_are;

@@ -35,15 +35,26 @@ plain_form = record { kind = kind.Plain; code_bytes = 0; rest = None }
 -- how a group of this kind is kept when it is made of these codes and tuples
 abbrev pub form_of : Kind → List ℕ → List (List ℤ) → FormOf
 form_of kind.Plain codes tuples = plain_form
-form_of kind.Codes codes tuples = record { kind = kind.Codes; code_bytes = least_code_bytes (length tuples); rest = None }
+form_of kind.Codes codes tuples = record {
+  kind = kind.Codes;
+  code_bytes = least_code_bytes (length tuples);
+  rest =
+      None;
+}
 form_of kind.Offsets codes tuples = record { kind = kind.Offsets; code_bytes = 0; rest = rest_of codes tuples }
 form_of kind.Runs codes tuples = record { kind = kind.Runs; code_bytes = 0; rest = rest_of codes tuples }
 
 -- how some rows of a group are kept, with these codes and tuples: as the group, and the rest is found anew
 abbrev pub form_cut : FormOf → List ℕ → List (List ℤ) → FormOf
-form_cut form codes tuples = record { kind = form.kind; code_bytes = form.code_bytes; rest = (form_of form.kind codes tuples).rest }
+form_cut form codes tuples = record {
+  kind = form.kind;
+  code_bytes = form.code_bytes;
+  rest =
+      (form_of form.kind codes tuples).rest;
+}
 
-module _ {N : Type 0} {n : number.Ghosts N} {o : ord.Ghosts N} {e : partial_eq.Ghosts N} {p : partial_ord.Ghosts N} {h : hash.Ghosts N} where
+module _ {N : Type 0} {n : number.Ghosts N} {o : ord.Ghosts N} {e : partial_eq.Ghosts N} {p : partial_ord.Ghosts N}
+    {h : hash.Ghosts N} where
   abbrev pub any_columns : AnyGroup N n o e p h → ℕ
   any_columns (Plain g) = plain_columns g
   any_columns (Codes1 g) = codes_columns g
@@ -89,13 +100,15 @@ module _ {N : Type 0} {n : number.Ghosts N} {o : ord.Ghosts N} {e : partial_eq.G
 -- others codes and tuples are these
 abbrev pub HasCodes : Kind → List ℕ → List (List ℤ) → List ℕ → List (List ℤ) → ℕ → Type 0
 HasCodes kind.Plain codes tuples codes' tuples' width =
-    (codes' ≡ range_with_len 0 (length codes)) × ((i c : ℕ) → i < length codes → c < width → cell_of codes' tuples' i c ≡ cell_of codes tuples i c)
+    (codes' ≡ range_with_len 0 (length codes))
+    × ((i c : ℕ) → i < length codes → c < width → cell_of codes' tuples' i c ≡ cell_of codes tuples i c)
 HasCodes kind.Codes codes tuples codes' tuples' width = (codes' ≡ codes) × (tuples' ≡ tuples)
 HasCodes kind.Offsets codes tuples codes' tuples' width = (codes' ≡ codes) × (tuples' ≡ tuples)
 HasCodes kind.Runs codes tuples codes' tuples' width = (codes' ≡ codes) × (tuples' ≡ tuples)
 
 -- a group of this kind that is made of these codes and tuples
-pub record IsGroupFrom (kind : Kind) (width : ℕ) (codes : List ℕ) (tuples : List (List ℤ)) (form : FormOf) (columns : ℕ) (codes' : List ℕ) (tuples' : List (List ℤ)) : Type 0 where
+pub record IsGroupFrom (kind : Kind) (width : ℕ) (codes : List ℕ) (tuples : List (List ℤ)) (form : FormOf) (columns : ℕ)
+    (codes' : List ℕ) (tuples' : List (List ℤ)) : Type 0 where
   pub form_is : form ≡ form_of kind codes tuples
   pub columns_are : columns ≡ width
   pub has : HasCodes kind codes tuples codes' tuples' width

@@ -10,7 +10,8 @@ use Rattle.cla_coded.specs.declared.any_group.AnyGroup.{AnyGroup}
 use Rattle.cla_coded.specs.AnyGroups.{FormOf, any_form}
 use Rattle.cla_coded.specs.Tables.{TableOf}
 
-module _ {N : Type 0} {n : number.Ghosts N} {o : ord.Ghosts N} {e : partial_eq.Ghosts N} {p : partial_ord.Ghosts N} {h : hash.Ghosts N} where
+module _ {N : Type 0} {n : number.Ghosts N} {o : ord.Ghosts N} {e : partial_eq.Ghosts N} {p : partial_ord.Ghosts N}
+    {h : hash.Ghosts N} where
   -- how each part is kept
   abbrev pub forms_of : TableOf (AnyGroup N n o e p h) → List FormOf
   forms_of table = map (λ part. any_form part.group) table.parts

@@ -81,7 +81,8 @@ impl<N: Number> AnyGroup<N> {
     ) -> Result<AnyGroup<N>, Memory>
         requires { AreCodes width (length values.items / width) codes.now (length values.items) }
         ensures { let tuples = tuples_of width (length values.items / width) (map N.value values.items) in
-            IfOk result (λ g. IsGroupFrom kind width codes.now tuples (any_form g) (any_columns g) (any_codes g) (any_dictionary g)) }
+            IfOk result (λ g. IsGroupFrom kind width codes.now tuples (any_form g) (any_columns g) (any_codes g)
+            (any_dictionary g)) }
     {
         match kind {
             Kind::Plain => {
@@ -110,7 +111,8 @@ fn from_codes_of_rows<N: Number>(
 ) -> Result<AnyGroup<N>, Memory>
     requires { AreCodes width (length values.items / width) codes.now (length values.items) }
     ensures { let tuples = tuples_of width (length values.items / width) (map N.value values.items) in
-        IfOk result (λ g. IsGroupFrom Kind.Codes width codes.now tuples (any_form g) (any_columns g) (any_codes g) (any_dictionary g)) }
+        IfOk result (λ g. IsGroupFrom Kind.Codes width codes.now tuples (any_form g) (any_columns g) (any_codes g)
+        (any_dictionary g)) }
 {
     let tuples = values.len() / width as usize;
     if tuples <= ONE_BYTE {

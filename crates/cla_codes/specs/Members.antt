@@ -8,7 +8,8 @@ use Rattle.cla_num.specs.declared.number.Number as number
 use Rattle.cla_layout.specs.Groups.{IsGroup}
 use Rattle.cla_codes.specs.declared.codes.Codes.{Codes}
 
-module _ {N : Type 0} {w : ℕ} {n : number.Ghosts N} {o : ord.Ghosts N} {e : partial_eq.Ghosts N} {p : partial_ord.Ghosts N} {h : hash.Ghosts N} where
+module _ {N : Type 0} {w : ℕ} {n : number.Ghosts N} {o : ord.Ghosts N} {e : partial_eq.Ghosts N}
+    {p : partial_ord.Ghosts N} {h : hash.Ghosts N} where
   abbrev pub codes_columns : Codes N w n o e p h → ℕ
   codes_columns g = g.dictionary.width
 

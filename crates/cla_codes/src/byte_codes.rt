@@ -28,7 +28,8 @@ impl<const W: usize> Model for ByteCodes<W> {
 
     ghost view = { λ r. codes_in W r.bytes.items r.rows };
 
-    ghost invariant = { λ r. AreKept W r.rows (codes_in W r.bytes.items r.rows) r.bytes.items r.occurrences.counts.items r.occurrences.first_rows.items };
+    ghost invariant = { λ r. AreKept W r.rows (codes_in W r.bytes.items r.rows) r.bytes.items r.occurrences.counts.items
+        r.occurrences.first_rows.items };
 }
 
 impl<const W: usize> ByteCodes<W> {

@@ -16,7 +16,8 @@ use Rattle.cla_group.specs.Rows.{ArePlaces}
 use Rattle.cla_layout.proofs.Tuples.{tuples_count, tuple_is, tuple_width, tuple_value, place_within, item_holds}
 use Rattle.cla_group.specs.Dictionaries.{DictionaryOf, AreTuples, AreValues, in_order}
 
-pub tuples_are : {N : Type 0} (bits : ℕ) (value : N → ℤ) → ((x : N) → InRange bits (value x)) → (width n : ℕ) (values : List N)
+pub tuples_are : {N : Type 0} (bits : ℕ) (value : N → ℤ) → ((x : N) → InRange bits (value x)) →
+    (width n : ℕ) (values : List N)
     → AreValues width n (length values) → AreTuples bits width (tuples_of width n (map value values))
 tuples_are bits value in_range width n values are =
     let count : length (tuples_of width n (map value values)) ≡ n = tuples_count width n (map value values) in
@@ -28,7 +29,8 @@ tuples_are bits value in_range width n values are =
       small = λ k c there place.
           (let k_there : k < n = rw count at there in
           rw (tuple_value width n (map value values) k c k_there place)
-          (item_holds value (InRange bits) in_range values (k * width + c) (rw are.whole (place_within width n k c k_there place))));
+          (item_holds value (InRange bits) in_range values (k * width + c)
+          (rw are.whole (place_within width n k c k_there place))));
     }
 
 pub values_narrow : (width n values : ℕ) → AreValues width n values → width ≤ most_cells
@@ -45,7 +47,8 @@ places_fit width n values places are rise =
 abbrev pub the_dictionary : ℕ → List (List ℤ) → DictionaryOf
 the_dictionary width tuples = record { width = width; tuples = tuples }
 
-tuple_same : (width : ℕ) (new old : List ℤ) (k j : ℕ) → ((c : ℕ) → c < width → at new (k * width + c) ≡ at old (j * width + c))
+tuple_same : (width : ℕ) (new old : List ℤ) (k j : ℕ) →
+    ((c : ℕ) → c < width → at new (k * width + c) ≡ at old (j * width + c))
     → tuple_at width new k ≡ tuple_at width old j
 tuple_same width new old k j same =
     ext_get_or (pos 0) (tuple_at width new k) (tuple_at width old j)
@@ -77,7 +80,8 @@ tuples_more width n values tuple whole full =
           ext_get_or (pos 0) (tuple_at width all k) tuple (size ∙ sym full) (λ c c_lt.
           (let c_there : c < width = rw size at c_lt in
           get_or-map-range_with_len (λ c. at all (k * width + c)) 0 width c c (pos 0) c_there (omega arith)
-          ∙ ap (λ (m : ℕ). at all (m + c)) (ap (λ (m : ℕ). m * width) last ∙ sym whole) ∙ get_or-append-add values tuple c (pos 0)))
+          ∙ ap (λ (m : ℕ). at all (m + c)) (ap (λ (m : ℕ). m * width) last ∙ sym whole)
+          ∙ get_or-append-add values tuple c (pos 0)))
           ∙ sym (get_or_push old tuple [] k (count ∙ sym last))
     ]))
 
@@ -86,7 +90,8 @@ pub record AreFirst (width k : ℕ) (wanted : List (List ℤ)) (values : List �
   pub whole : length values ≡ k * width
   pub are : tuples_of width k values ≡ take k wanted
 
-pub first_more : (width k : ℕ) (wanted : List (List ℤ)) (values next : List ℤ) → AreFirst width k wanted values → k < length wanted
+pub first_more : (width k : ℕ) (wanted : List (List ℤ)) (values next : List ℤ) → AreFirst width k wanted values →
+    k < length wanted
     → next ≡ get_or wanted k [] → length next ≡ width → AreFirst width (k + 1) wanted (values ++ next)
 first_more width k wanted values next first there is full = record {
   whole = omega (arith, length-append values next, first.whole, full);
@@ -94,7 +99,8 @@ first_more width k wanted values next first there is full = record {
       ∙ ap (λ (t : List ℤ). take k wanted ++ t ∷ []) is ∙ sym (take_more wanted k [] there);
 }
 
-pub in_order_tuples : (width n : ℕ) (order : List ℕ) (old new : List ℤ) → ((k : ℕ) → k < length order → code_of order k < n)
+pub in_order_tuples : (width n : ℕ) (order : List ℕ) (old new : List ℤ) →
+    ((k : ℕ) → k < length order → code_of order k < n)
     → AreInOrder width order old new → tuples_of width (length order) new ≡ in_order order (tuples_of width n old)
 in_order_tuples width n order old new within same =
     let m = length order in
@@ -114,8 +120,10 @@ slice_size width a b some =
     omega (arith, product)
 
 -- the values from tuple a to before tuple b are those of these tuples
-pub slice_tuples : {N : Type 0} (value : N → ℤ) (width n a b : ℕ) (items : List N) → a < b → b ≤ n → tuples_of width (b - a)
-    (map value (take (b * width - a * width) (drop (a * width) items))) ≡ take (b - a) (drop a (tuples_of width n (map value items)))
+pub slice_tuples : {N : Type 0} (value : N → ℤ) (width n a b : ℕ) (items : List N) → a < b → b ≤ n →
+    tuples_of width (b - a)
+    (map value (take (b * width - a * width) (drop (a * width) items)))
+    ≡ take (b - a) (drop a (tuples_of width n (map value items)))
 slice_tuples {N} value width n a b items some within =
     let cut = take (b * width - a * width) (drop (a * width) items) in
     let old = tuples_of width n (map value items) in
@@ -127,24 +135,29 @@ slice_tuples {N} value width n a b items some within =
     (λ k lt. (let k_there : k < b - a = rw (tuples_count width (b - a) (map value cut)) at lt in
     tuple_is width (b - a) (map value cut) k k_there
     ∙ tuple_same width (map value cut) (map value items) k (a + k) (λ c place.
-    (let inside : k * width + c < b * width - a * width = rw (slice_size width a b some) (place_within width (b - a) k c k_there place) in
+    (let inside : k * width + c < b * width - a * width =
+    rw (slice_size width a b some) (place_within width (b - a) k c k_there place) in
     let place_is : a * width + (k * width + c) ≡ (a + k) * width + c = omega arith in
-    stretch_item value items (a * width) (b * width - a * width) (k * width + c) inside ∙ ap (at (map value items)) place_is))
+    stretch_item value items (a * width) (b * width - a * width) (k * width + c) inside
+    ∙ ap (at (map value items)) place_is))
     ∙ sym (tuple_is width n (map value items) (a + k) (omega (arith, k_there, within)))
     ∙ sym (get_or-drop a old k [])
     ∙ sym (get_or-take (b - a) (drop a old) k [] k_there)))
 
 -- the values of tuple k, cut out
-pub tuple_piece : {N : Type 0} (value : N → ℤ) (width n k size : ℕ) (values : List N) → length values ≡ n * width → k < n → size ≡ width
+pub tuple_piece : {N : Type 0} (value : N → ℤ) (width n k size : ℕ) (values : List N) → length values ≡ n * width →
+    k < n → size ≡ width
     → map value (take size (drop (k * width) values)) ≡ get_or (tuples_of width n (map value values)) k []
 tuple_piece value width n k size values whole there is =
     let piece = take size (drop (k * width) values) in
     let all = mul-le-mul_right {m = k + 1} {n = n} width (omega (arith, there)) in
     let full : length (map value piece) ≡ width =
     length-map piece value
-    ∙ length-take-le size (drop (k * width) values) (omega (arith, length-drop (k * width) values, is, whole, all)) ∙ is in
+    ∙ length-take-le size (drop (k * width) values) (omega (arith, length-drop (k * width) values, is, whole, all))
+    ∙ is in
     let items = λ (c : ℕ). at (map value values) (k * width + c) in
-    ext_get_or (pos 0) (map value piece) (tuple_at width (map value values) k) (full ∙ sym (length-map-range_with_len items 0 width))
+    ext_get_or (pos 0) (map value piece) (tuple_at width (map value values) k) (full
+    ∙ sym (length-map-range_with_len items 0 width))
     (λ c lt. (let place : c < width = rw full at lt in
     stretch_item value values (k * width) size c (omega (arith, place, is))
     ∙ sym (get_or-map-range_with_len items 0 width c c (pos 0) place (omega arith))))

@@ -25,7 +25,8 @@ pub gathered_elsewhere : (codes : List ℕ) (items : List ℤ) (k i : ℕ) → (
 gathered_elsewhere codes items k i elsewhere =
     let next : i + 1 ≡ suc i = omega arith in
     ap (gathered_to codes items k) next
-    ∙ ap (λ (b : Bool). gathered_to codes items k i +ℤ cond b (at items i) (pos 0)) (ne_eqb (code_of codes i) k elsewhere)
+    ∙ ap (λ (b : Bool). gathered_to codes items k i +ℤ cond b (at items i) (pos 0))
+    (ne_eqb (code_of codes i) k elsewhere)
     ∙ sym (plus_zero (gathered_to codes items k i))
 
 either : (b : Bool) (z : ℤ) → unsigned_abs z ≤ value_bound → unsigned_abs (cond b z (pos 0)) ≤ value_bound
@@ -39,7 +40,8 @@ pub gathered_size : {N : Type 0} (bits : ℕ) (value : N → ℤ) → ((x : N) �
 gathered_size bits value in_range supported codes items k n within =
     sum_to-size (λ i. cond (eqb (code_of codes i) k) (at (map value items) i) (pos 0)) value_bound n (λ i lt.
     either (eqb (code_of codes i) k) (at (map value items) i)
-    (item_holds value (λ (z : ℤ). unsigned_abs z ≤ value_bound) (λ x. value_size bits (value x) supported (in_range x)) items i
+    (item_holds value (λ (z : ℤ). unsigned_abs z ≤ value_bound) (λ x. value_size bits (value x) supported (in_range x))
+    items i
     (omega (arith, lt, within))))
 
 -- one more row is gathered
@@ -52,7 +54,8 @@ gathered_step codes items into i kk v code there is so_far k within =
       | inl same ↦
           let here : code_of codes i ≡ k = sym code ∙ sym same in
           ap (at (set into kk v)) same ∙ get_or-set_same into kk v (pos 0) there ∙ is
-          ∙ ap (λ (z : ℤ). z +ℤ at items i) (ap (at into) (sym same) ∙ so_far k k_there) ∙ sym (gathered_here codes items k i here)
+          ∙ ap (λ (z : ℤ). z +ℤ at items i) (ap (at into) (sym same) ∙ so_far k k_there)
+          ∙ sym (gathered_here codes items k i here)
       | inr other ↦
           get_or-set_other into kk k v (pos 0) other ∙ so_far k k_there
           ∙ sym (gathered_elsewhere codes items k i (λ here. other (sym here ∙ sym code)))

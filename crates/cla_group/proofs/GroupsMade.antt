@@ -27,22 +27,32 @@ group_valued bits width codes tuples tuples' is are count = record {
 }
 
 -- some of the columns
-pub group_projected : (bits width : ℕ) (codes : List ℕ) (tuples : List (List ℤ)) (places : List ℕ) → IsGroup bits width codes tuples
+pub group_projected : (bits width : ℕ) (codes : List ℕ) (tuples : List (List ℤ)) (places : List ℕ) →
+    IsGroup bits width codes tuples
     → ArePlaces width places → IsGroup bits (length places) codes (map (projected places) tuples)
 group_projected bits width codes tuples places is are =
     let count : length (map (projected places) tuples) ≡ length tuples = length-map tuples (projected places) in
-    let tuple : (k : ℕ) → k < length tuples → get_or (map (projected places) tuples) k [] ≡ projected places (get_or tuples k []) =
+    let tuple : (k : ℕ) → k < length tuples → get_or (map (projected places) tuples) k []
+    ≡ projected places (get_or tuples k []) =
     (λ k there. get_or-map (projected places) tuples k [] [] there) in
     record {
       a_row = is.a_row;
       a_column = are.some;
-      few_cells = omega (arith, is.few_cells, mul-le-mul_left {m = length places} {n = width} (length codes) (places_few width places are));
+      few_cells =
+          omega (
+            arith,
+            is.few_cells,
+            mul-le-mul_left {m = length places} {n = width} (length codes)
+                (places_few width places are),
+          );
       in_tuples = λ i row. rw count (is.in_tuples i row);
       used = λ k there. is.used k (rw count at there);
-      full = λ k there. ap (λ (t : List ℤ). length t) (tuple k (rw count at there)) ∙ length-map places (at (get_or tuples k []));
+      full = λ k there. ap (λ (t : List ℤ). length t) (tuple k (rw count at there))
+          ∙ length-map places (at (get_or tuples k []));
       small = λ k c there place.
           (let k_there : k < length tuples = rw count at there in
-          rw (ap (λ (t : List ℤ). at t c) (tuple k k_there) ∙ get_or-map (at (get_or tuples k [])) places c 0 (pos 0) place)
+          rw (ap (λ (t : List ℤ). at t c) (tuple k k_there)
+          ∙ get_or-map (at (get_or tuples k [])) places c 0 (pos 0) place)
           (is.small k (code_of places c) k_there (are.within c place)));
     }
 
@@ -51,7 +61,8 @@ in_order_tuple : (order : List ℕ) (tuples : List (List ℤ)) (k : ℕ) → k <
     → get_or (in_order order tuples) k [] ≡ get_or tuples (code_of order k) []
 in_order_tuple order tuples k there = get_or-map (λ k. get_or tuples k []) order k 0 [] there
 
-pub group_sliced : (bits width a b : ℕ) (codes : List ℕ) (tuples : List (List ℤ)) (new order : List ℕ) → a < b → b ≤ length codes
+pub group_sliced : (bits width a b : ℕ) (codes : List ℕ) (tuples : List (List ℤ)) (new order : List ℕ) → a < b →
+    b ≤ length codes
     → IsGroup bits width codes tuples → AreRenamed (length tuples) (take (b - a) (drop a codes)) new order
     → IsGroup bits width new (in_order order tuples)
 group_sliced bits width a b codes tuples new order some within is are =
@@ -97,17 +108,25 @@ rows_sliced bits width a b codes tuples new order within is are =
     }
 
 -- the values of a group's codes are a dictionary's
-pub dictionary_values : (width n : ℕ) (codes : List ℕ) (values : ℕ) → AreCodes width n codes values → AreValues width n values
+pub dictionary_values : (width n : ℕ) (codes : List ℕ) (values : ℕ) → AreCodes width n codes values →
+    AreValues width n values
 dictionary_values width n codes values are = record {
   a_column = are.a_column;
   a_tuple = omega (arith, are.in_tuples 0 (omega (arith, are.a_row)));
   whole = are.whole;
-  few = omega (arith, are.few_cells, are.whole, mul-le-mul_right {m = n} {n = length codes} width (used_few codes n are.used));
+  few =
+      omega (
+        arith,
+        are.few_cells,
+        are.whole,
+        mul-le-mul_right {m = n} {n = length codes} width (used_few codes n are.used),
+      );
 }
 
 -- the rows that are kept with new codes, in the order that renumbers them
 pub rows_kept : (bits : ℕ) (codes : List ℕ) (from : DictionaryOf) (new order : List ℕ) (kept : DictionaryOf)
-    → AreRenamed (length from.tuples) codes new order → kept ≡ record { width = from.width; tuples = in_order order from.tuples }
+    → AreRenamed (length from.tuples) codes new order →
+    kept ≡ record { width = from.width; tuples = in_order order from.tuples }
     → AreKeptRows bits codes from new kept
 rows_kept bits codes from new order kept are is =
     let count : length (in_order order from.tuples) ≡ length order = length-map order (λ k. get_or from.tuples k []) in
@@ -115,6 +134,8 @@ rows_kept bits codes from new order kept are is =
       width = refl;
       few = rw count are.few;
       numbered = λ k there. are.rising k (k + 1) (omega arith) (rw count at there);
-      group = λ a b all some within cut group. group_sliced bits from.width a b all from.tuples new order some within group (rw cut at are);
-      rows = λ a b all some within cut group. rows_sliced bits from.width a b all from.tuples new order within group (rw cut at are);
+      group = λ a b all some within cut group. group_sliced bits from.width a b all from.tuples new order some within
+          group (rw cut at are);
+      rows = λ a b all some within cut group. rows_sliced bits from.width a b all from.tuples new order within group
+          (rw cut at are);
     })

@@ -11,11 +11,14 @@ pub record IsTuple (width code : ℕ) (values piece : List ℤ) : Type 0 where
   pub size : length piece ≡ width
   pub same : (c : ℕ) → c < width → at piece c ≡ at values (code * width + c)
 
-pub tuple_read : {N : Type 0} (value : N → ℤ) (width code n : ℕ) (values : List N) → n ≡ width → (code + 1) * width ≤ length values
+pub tuple_read : {N : Type 0} (value : N → ℤ) (width code n : ℕ) (values : List N) → n ≡ width →
+    (code + 1) * width ≤ length values
     → IsTuple width code (map value values) (map value (take n (drop (code * width) values)))
 tuple_read value width code n values whole within =
     let piece = take n (drop (code * width) values) in
-    let size = length-take-le n (drop (code * width) values) (omega (arith, length-drop (code * width) values, whole, within)) in
+    let size =
+    length-take-le n (drop (code * width) values) (omega (arith, length-drop (code * width) values, whole, within))
+    in
     record {
       size = length-map piece value ∙ size ∙ whole;
       same = λ c place. stretch_item value values (code * width) n c (omega (arith, place, whole));

@@ -30,4 +30,5 @@ in_order order tuples = map (λ k. slice_index_or tuples k []) order
 
 -- values tuple after tuple: tuple k has those of the old tuple order k
 abbrev pub AreInOrder : ℕ → List ℕ → List ℤ → List ℤ → Type 0
-AreInOrder width order old new = (k c : ℕ) → k < length order → c < width → at new (k * width + c) ≡ at old (code_of order k * width + c)
+AreInOrder width order old new = (k c : ℕ) → k < length order → c < width → at new (k * width + c)
+    ≡ at old (code_of order k * width + c)

@@ -7,7 +7,8 @@ use Rattle.cla_group.specs.Dictionaries.{DictionaryOf}
 
 -- the rows with these codes of a dictionary, with new codes of a dictionary without the tuples that none of them names:
 -- whichever group they were cut from, they are a group, and are its rows
-pub record AreKeptRows (bits : ℕ) (codes : List ℕ) (from : DictionaryOf) (codes' : List ℕ) (kept : DictionaryOf) : Type 0 where
+pub record AreKeptRows (bits : ℕ) (codes : List ℕ) (from : DictionaryOf) (codes' : List ℕ) (kept : DictionaryOf) : Type
+    0 where
   pub width : kept.width ≡ from.width
   pub few : length kept.tuples ≤ length from.tuples
   pub numbered : AreNumbered codes' (length kept.tuples)

@@ -4,4 +4,6 @@ pub mod TupleLemmas
 pub mod SizeLemmas
 pub mod Used
 pub mod Numbered
+pub mod Partition
+pub mod FirstRows
 pub mod Examples

@@ -4,7 +4,7 @@ use Rattle.std.specs.List.{position_or_len, list_any}
 use Rattle.cla_grouping.specs.Numbering.{with_item, codes_from, firsts_from}
 use Rattle.cla_grouping.proofs.CodeLemmas.{position-within}
 
-position-none : {A : Type 0} (p : A → Bool) (xs : List A) → list_any p xs ≡ false → position_or_len p xs ≡ length xs
+pub position-none : {A : Type 0} (p : A → Bool) (xs : List A) → list_any p xs ≡ false → position_or_len p xs ≡ length xs
 position-none p [] h = refl
 position-none p (y ∷ ys) h = at (p y) (λ e. position-none p ys e) h
   where

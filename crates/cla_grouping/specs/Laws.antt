@@ -1,9 +1,11 @@
 -- What holds of the tuples of columns.
-use Rattle.std.specs.Prelude.{◌≡◌, ℕ, ◌<◌, List, ◌++◌, true, ◌↔◌}
+use Rattle.std.specs.Prelude.{◌≡◌, ℕ, ◌<◌, ◌≤◌, List, ◌++◌, length, true, ◌↔◌}
 use Rattle.cla_spec.specs.Matrix.{Matrix}
-use Rattle.cla_layout.specs.Groups.{code_of}
+use Rattle.cla_layout.specs.Groups.{code_of, AreNumbered}
 use Rattle.cla_layout.specs.Listed.{is_rest}
 use Rattle.cla_grouping.specs.Tuples.{same_tuple, is_zero_row, tuples_in, joined}
+use Rattle.cla_grouping.specs.Grouping.{grouping_of}
+use Rattle.cla_grouping.specs.Partitions.{columns_in, ArePartitioned}
 
 -- two rows have one code exactly where they have the same tuple
 abbrev pub CodesTellTuples : Type 0
@@ -19,3 +21,12 @@ ZerosAreTold = (m : Matrix) (columns : List ℕ) (i : ℕ) → i < m.rows →
 abbrev pub JoinsAgree : Type 0
 JoinsAgree = (m : Matrix) (first second : List ℕ) →
     joined (tuples_in m first) (tuples_in m second) ≡ tuples_in m (first ++ second)
+
+-- codes number the tuples by first row
+abbrev pub CodesAreNumbered : Type 0
+CodesAreNumbered = (m : Matrix) (columns : List ℕ) →
+    AreNumbered (tuples_in m columns).codes (tuples_in m columns).distinct
+
+-- the groups of a cut part the columns of the matrix, and stand in the order of their first columns
+abbrev pub CutsPartColumns : Type 0
+CutsPartColumns = (m : Matrix) → 1 ≤ m.cols → ArePartitioned m.cols (columns_in (grouping_of m).groups)

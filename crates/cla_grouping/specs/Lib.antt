@@ -2,4 +2,5 @@ pub mod Numbering
 pub mod Tuples
 pub mod Sizes
 pub mod Grouping
+pub mod Partitions
 pub mod Laws

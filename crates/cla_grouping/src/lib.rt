@@ -5,7 +5,9 @@
 mod laws;
 mod sizes;
 
-pub use laws::{codes_tell_tuples, joins_agree, zeros_are_told};
+pub use laws::{
+    codes_are_numbered, codes_tell_tuples, cuts_part_columns, joins_agree, zeros_are_told,
+};
 pub use sizes::{
     Figures, KindBytes, best, codes_size, most_tuples, offsets_size, plain_size, runs_size,
 };

@@ -3,3 +3,5 @@ pub mod TakenLines
 pub mod WindowLaws
 pub mod GatherLaws
 pub mod MemMap
+pub mod NumberLaws
+pub mod AheadLaws

@@ -13,8 +13,14 @@ use Rattle.cla_io.specs.Lines.{Progress, IsLfPlace, EndsAt, TakesLine, TakesLine
 
 -- what a search for LF finds is the place of the next one
 pub lf_found : (bytes : List ℕ) (r : Option ℕ) → IsFirstByte (is_byte 10) bytes r → IsLfPlace bytes r
-lf_found bytes None h = position_or_len_is is_lf bytes (length bytes) 0 (omega arith) (λ k lt. false_from_ne_true _ (h k (omega arith) lt)) (λ lt. absurd (omega arith))
-lf_found bytes (Some k) h = (h.0.high, position_or_len_is is_lf bytes k 0 (omega (arith, h.0.high)) (λ j lt. false_from_ne_true _ (h.0.before j (omega arith) lt)) (λ lt. h.1))
+lf_found bytes None h =
+    position_or_len_is is_lf bytes (length bytes) 0 (omega arith) (λ k lt. false_from_ne_true _ (h k (omega arith) lt))
+    (λ lt. absurd (omega arith))
+lf_found bytes (Some k) h = (
+  h.0.high,
+  position_or_len_is is_lf bytes k 0 (omega (arith, h.0.high))
+      (λ j lt. false_from_ne_true _ (h.0.before j (omega arith) lt)) (λ lt. h.1),
+)
 
 line_at : (bytes : List ℕ) (k : ℕ) → position_or_len is_lf bytes ≡ k → first_line bytes ≡ without_cr (take k bytes)
 unfolding first_line
@@ -25,7 +31,8 @@ unfolding after_line
 rest_at bytes k h = rw h refl
 
 past_end : (bytes : List ℕ) → drop (length bytes + 1) bytes ≡ drop (length bytes) bytes
-past_end bytes = nil_from_length _ (omega (arith, length-drop (length bytes + 1) bytes)) ∙ sym (nil_from_length _ (omega (arith, length-drop (length bytes) bytes)))
+past_end bytes = nil_from_length _ (omega (arith, length-drop (length bytes + 1) bytes))
+    ∙ sym (nil_from_length _ (omega (arith, length-drop (length bytes) bytes)))
 
 -- a line that ends at an LF
 pub ends_at_lf : (bytes : List ℕ) (k : ℕ) → k < length bytes → position_or_len is_lf bytes ≡ k → EndsAt bytes k (k + 1)
@@ -39,7 +46,8 @@ ends_at_lf bytes k lt h = record {
 }
 
 -- a line that ends with its file
-pub ends_at_end : (bytes : List ℕ) → position_or_len is_lf bytes ≡ length bytes → EndsAt bytes (length bytes) (length bytes)
+pub ends_at_end : (bytes : List ℕ) → position_or_len is_lf bytes ≡ length bytes →
+    EndsAt bytes (length bytes) (length bytes)
 ends_at_end bytes h = record {
   in_width = omega arith;
   within = omega arith;
@@ -54,16 +62,26 @@ take_fewer : (r k : ℕ) (xs : List ℕ) → r ≤ k → take r (take k xs) ≡ 
 take_fewer r k xs le = rw take-take (ap (λ (n : ℕ). take n xs) (omega arith))
 
 -- an LF among the first bytes is the next one of all of them
-found_on : (xs ys : List ℕ) (k : ℕ) → k < length xs → position_or_len is_lf xs ≡ k → position_or_len is_lf (xs ++ ys) ≡ k
-found_on xs ys k lt place = prefix_len-append (λ b. not (is_lf b)) xs ys ∙ rw (ne_eqb (position_or_len is_lf xs) (length xs) (λ e. omega (arith, e, lt, place))) place
+found_on : (xs ys : List ℕ) (k : ℕ) → k < length xs → position_or_len is_lf xs ≡ k → position_or_len is_lf (xs ++ ys)
+    ≡ k
+found_on xs ys k lt place = prefix_len-append (λ b. not (is_lf b)) xs ys
+    ∙ rw (ne_eqb (position_or_len is_lf xs) (length xs) (λ e. omega (arith, e, lt, place))) place
 
 -- a line that is held is the next line of the file
-held_whole : (old new : Progress) (xs rest ys : List ℕ) (k : ℕ) (result : Result Bool InFault) → k < length xs → position_or_len is_lf xs ≡ k → TakesLine old new xs rest result → TakesLine old new (xs ++ ys) (rest ++ ys) result
+held_whole : (old new : Progress) (xs rest ys : List ℕ) (k : ℕ) (result : Result Bool InFault) → k < length xs →
+    position_or_len is_lf xs ≡ k → TakesLine old new xs rest result → TakesLine old new (xs ++ ys) (rest ++ ys) result
 held_whole old new xs rest ys k (Ok true) lt place t =
     let whole = ends_at_lf (xs ++ ys) k (omega (arith, length-append xs ys)) (found_on xs ys k lt place) in
     let part = ends_at_lf xs k lt place in
-    let later : k + 1 ≤ length xs = omega arith in
-    (omega (arith, length-append xs ys), t.1 ∙ part.line ∙ ap without_cr (sym (take-append-le k xs ys (omega arith))) ∙ sym whole.line, ap (λ (r : List ℕ). r ++ ys) (t.2 ∙ part.rest) ∙ sym (drop-append-le (k + 1) xs ys later) ∙ sym whole.rest, t.3 ∙ omega (arith, part.is_width, whole.is_width), t.4)
+    let later : k + 1 ≤ length xs = omega arith in (
+      omega (arith, length-append xs ys),
+      t.1 ∙ part.line ∙ ap without_cr (sym (take-append-le k xs ys (omega arith)))
+          ∙ sym whole.line,
+      ap (λ (r : List ℕ). r ++ ys) (t.2 ∙ part.rest) ∙ sym (drop-append-le (k + 1) xs ys later)
+          ∙ sym whole.rest,
+      t.3 ∙ omega (arith, part.is_width, whole.is_width),
+      t.4,
+    )
 held_whole old new xs rest ys k (Ok false) lt place t = absurd (omega (arith, lt, ap (λ (r : List ℕ). length r) t.0))
 held_whole old new xs rest ys k (Err TooLong) lt place t =
     let whole = ends_at_lf (xs ++ ys) k (omega (arith, length-append xs ys)) (found_on xs ys k lt place) in
@@ -72,13 +90,17 @@ held_whole old new xs rest ys k (Err TooLong) lt place t =
 held_whole old new xs rest ys k (Err Read) lt place t = tt
 held_whole old new xs rest ys k (Err Memory) lt place t = tt
 
-pub takes_held : (old new : Progress) (left : Option (List ℕ)) (k : ℕ) (result : Result Bool InFault) → IsLfPlace old.ahead (Some k) → TakesLine old new old.ahead new.ahead result → TakesLineWhereTold old new (ahead_of old left) (ahead_of new left) result
+pub takes_held : (old new : Progress) (left : Option (List ℕ)) (k : ℕ) (result : Result Bool InFault) →
+    IsLfPlace old.ahead (Some k) → TakesLine old new old.ahead new.ahead result →
+    TakesLineWhereTold old new (ahead_of old left) (ahead_of new left) result
 takes_held old new None k result place t = refl
 takes_held old new (Some ys) k result place t = held_whole old new old.ahead new.ahead ys k result place.0 place.1 t
 
 -- the line among the bytes that are held
-pub line_held : (bytes : List ℕ) (start end k r : ℕ) → k < length (slice_range bytes start end) → position_or_len is_lf (slice_range bytes start end) ≡ k
-    → take r (take k (slice_range bytes start end)) ≡ without_cr (take k (slice_range bytes start end)) → r ≤ length (take k (slice_range bytes start end))
+pub line_held : (bytes : List ℕ) (start end k r : ℕ) → k < length (slice_range bytes start end) →
+    position_or_len is_lf (slice_range bytes start end) ≡ k
+    → take r (take k (slice_range bytes start end)) ≡ without_cr (take k (slice_range bytes start end)) →
+    r ≤ length (take k (slice_range bytes start end))
     → take (start + r - start) (drop start bytes) ≡ first_line (slice_range bytes start end)
 line_held bytes start end k r lt place is within =
     let held = slice_range bytes start end in
@@ -86,4 +108,5 @@ line_held bytes start end k r lt place is within =
     let wide : r ≤ end - start = omega (arith, few, lt, length-take (end - start) (drop start bytes)) in
     let width : start + r - start ≡ r = omega arith in
     let e = ends_at_lf held k lt place in
-    rw width (sym (take_fewer r (end - start) (drop start bytes) wide) ∙ sym (take_fewer r k held few) ∙ is ∙ sym e.line)
+    rw width (sym (take_fewer r (end - start) (drop start bytes) wide) ∙ sym (take_fewer r k held few) ∙ is
+    ∙ sym e.line)

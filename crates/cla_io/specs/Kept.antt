@@ -28,12 +28,14 @@ same_but_itself name None = refl
 same_but_itself None (Some t) = refl
 same_but_itself (Some n) (Some t) = λ other h. refl
 
-pub same_but_on : (name name' : Option (List ℕ)) (a b c : Option Told) → name' ≡ name → SameBut name a b → SameBut name' b c → SameBut name a c
+pub same_but_on : (name name' : Option (List ℕ)) (a b c : Option Told) → name' ≡ name → SameBut name a b →
+    SameBut name' b c → SameBut name a c
 same_but_on name name' None b c same first next = rw first at next
 same_but_on name name' (Some x) None c same first next = absurd first
 same_but_on name name' (Some x) (Some y) None same first next = absurd next
 same_but_on None name' (Some x) (Some y) (Some z) same first next = (rw same at next) ∙ first
-same_but_on (Some n) name' (Some x) (Some y) (Some z) same first next = λ other h. (rw same at next) other h ∙ first other h
+same_but_on (Some n) name' (Some x) (Some y) (Some z) same first next = λ other h. (rw same at next) other h
+    ∙ first other h
 
 pub kept_itself : (s : State) → KeptFiles s s
 kept_itself s = record {

@@ -15,3 +15,5 @@ pub mod StdSink
 pub mod Window
 pub mod Lines
 pub mod InputFrame
+pub mod Numbers
+pub mod Ahead

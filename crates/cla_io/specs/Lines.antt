@@ -38,7 +38,8 @@ line_width bytes = length bytes - length (after_line bytes)
 
 -- what next_line does to the bytes ahead
 abbrev pub TakesLine : Progress → Progress → List ℕ → List ℕ → Result Bool InFault → Type 0
-TakesLine old new bytes after (Ok true) = (0 < length bytes) × (new.line ≡ first_line bytes) × (after ≡ after_line bytes) × (new.at ≡ old.at + line_width bytes) × (new.at ≤ new.limit)
+TakesLine old new bytes after (Ok true) = (0 < length bytes) × (new.line ≡ first_line bytes)
+    × (after ≡ after_line bytes) × (new.at ≡ old.at + line_width bytes) × (new.at ≤ new.limit)
 TakesLine old new bytes after (Ok false) = (bytes ≡ []) × (after ≡ []) × (new.at ≡ old.at) × (new.at ≤ new.limit)
 TakesLine old new bytes after (Err TooLong) = new.limit < old.at + line_width bytes
 TakesLine old new bytes after (Err Read) = Unit {0}
@@ -75,7 +76,8 @@ TakesAllWhereTold limit None after result = after ≡ None
 TakesAllWhereTold limit (Some bytes) None result = ⊥
 TakesAllWhereTold limit (Some bytes) (Some after) result = TakesAll limit bytes after result
 
-abbrev pub TakesWholeWhereTold : Progress → Progress → Option (List ℕ) → Option (List ℕ) → Result (Vec ℕ Global) InFault → Type 0
+abbrev pub TakesWholeWhereTold : Progress → Progress → Option (List ℕ) → Option (List ℕ) → Result (Vec ℕ Global) InFault
+    → Type 0
 TakesWholeWhereTold old new bytes after result = TakesAllWhereTold new.limit bytes after result
 
 -- where whole stands afterwards: behind all bytes, within the limit; an error takes nothing
@@ -116,7 +118,8 @@ SameBytes held (Some left) held' (Some left') = held' ++ left' ≡ held ++ left
 
 -- the next line was gathered, with its end it has so many bytes, and there is room for it
 abbrev pub Gathers : ℕ → List ℕ → List ℕ → List ℕ → Result ℕ InFault → Type 0
-Gathers room line bytes after (Ok width) = EndsAt bytes (length line) width × (line ≡ take (length line) bytes) × (after ≡ drop width bytes)
+Gathers room line bytes after (Ok width) = EndsAt bytes (length line) width × (line ≡ take (length line) bytes)
+    × (after ≡ drop width bytes)
 Gathers room line bytes after (Err TooLong) = room < line_width bytes
 Gathers room line bytes after (Err Read) = Unit {0}
 Gathers room line bytes after (Err Memory) = Unit {0}

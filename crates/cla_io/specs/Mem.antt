@@ -13,11 +13,13 @@ is_empty_list (x ∷ xs) = false
 abbrev pub NoFaultsIfEmpty : {X : Type 0} → List X → ℕ → Type 0
 NoFaultsIfEmpty fail faults = is_empty_list fail ≡ true → faults ≡ 0
 
-pub faultless_of : {X : Type 0} (fail : List X) (faults : ℕ) → NoFaultsIfEmpty fail faults → is_empty_list fail ≡ true → faults ≡ 0
+pub faultless_of : {X : Type 0} (fail : List X) (faults : ℕ) → NoFaultsIfEmpty fail faults → is_empty_list fail ≡ true →
+    faults ≡ 0
 faultless_of fail faults h e = h e
 
 -- the same of files, which count faults of reading and of writing
-pub faultless_files : {X : Type 0} (fail : List X) (s : State) → NoFaultsIfEmpty fail s.read_faults → NoFaultsIfEmpty fail s.write_faults → is_empty_list fail ≡ true → IsFaultless s
+pub faultless_files : {X : Type 0} (fail : List X) (s : State) → NoFaultsIfEmpty fail s.read_faults →
+    NoFaultsIfEmpty fail s.write_faults → is_empty_list fail ≡ true → IsFaultless s
 faultless_files fail s reads writes e = record { read_faults = reads e; write_faults = writes e }
 
 -- the count of faults after a call

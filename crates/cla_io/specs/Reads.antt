@@ -26,7 +26,8 @@ IsAbsent (Some told) name = fin.get told name ≡ None
 
 -- what begin_read answers
 abbrev pub BeginsRead : List ℕ → State → State → Result Bool Stop → Type 0
-BeginsRead name old new (Ok true) = (new.reading ≡ Some (record { name = name; place = 0 })) × IsPresent old.told name × (new.misses ≡ old.misses)
+BeginsRead name old new (Ok true) = (new.reading ≡ Some (record { name = name; place = 0 })) × IsPresent old.told name
+    × (new.misses ≡ old.misses)
 BeginsRead name old new (Ok false) = (new.reading ≡ None) × Rose old.misses new.misses × IsAbsent old.told name
 BeginsRead name old new (Err e) = (new.reading ≡ None) × (new.misses ≡ old.misses)
 
@@ -42,9 +43,11 @@ MovesOn told (Some r) new n = new ≡ Some (moved told r n)
 -- the first n bytes of a buffer are the next ones of a file, and n is 0 only at its end
 abbrev pub Takes : Option (List ℕ) → List ℕ → ℕ → Option (List ℕ) → Type 0
 Takes None into n after = Unit {0}
-Takes (Some bytes) into n after = (after ≡ Some (drop n bytes)) × (take n into ≡ take n bytes) × (n ≤ length bytes) × (n ≡ 0 → bytes ≡ [])
+Takes (Some bytes) into n after = (after ≡ Some (drop n bytes)) × (take n into ≡ take n bytes) × (n ≤ length bytes)
+    × (n ≡ 0 → bytes ≡ [])
 
 -- what read answers
 abbrev pub Reads : State → State → List ℕ → Result ℕ Stop → Type 0
-Reads old new into (Ok n) = (n ≤ length into) × MovesOn old.told old.reading new.reading n × Takes (left old) into n (left new)
+Reads old new into (Ok n) = (n ≤ length into) × MovesOn old.told old.reading new.reading n
+    × Takes (left old) into n (left new)
 Reads old new into (Err e) = new.reading ≡ old.reading

@@ -1,5 +1,5 @@
 -- What an input holds of its file: a buffer, and the line that was taken last.
-use Rattle.std.specs.Prelude.{ℕ, ◌≤◌, ◌^◌, List, slice_range}
+use Rattle.std.specs.Prelude.{ℕ, ◌≤◌, ◌^◌, List, length, slice_range}
 use Rattle.cla_io.specs.declared.window.Window.{Window}
 use Rattle.cla_io.specs.declared.last_line.LastLine.{LastLine}
 use Rattle.cla_io.specs.declared.last_line.LastLine.TheVariants.{Held, Apart}
@@ -7,6 +7,10 @@ use Rattle.cla_io.specs.declared.last_line.LastLine.TheVariants.{Held, Apart}
 -- the bytes that are held and weren't taken
 abbrev pub items : Window → List ℕ
 items w = slice_range w.bytes.items w.start w.end
+
+-- how many bytes a buffer has
+abbrev pub size_of : Window → ℕ
+size_of w = length w.bytes.items
 
 -- the line that was taken last, over the bytes of a buffer
 abbrev pub line_of : LastLine → List ℕ → List ℕ

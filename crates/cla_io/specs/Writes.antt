@@ -31,7 +31,8 @@ appended (Some told) (Some name) piece = Some (fin.insert told name (bytes_at to
 
 -- what begin_write answers
 abbrev pub BeginsWrite : {U : Type 0} → List ℕ → State → State → Result U Stop → Type 0
-BeginsWrite name old new (Ok u) = (new.told ≡ with_bytes old.told name []) × (new.writing ≡ Some name) × (new.reading ≡ None)
+BeginsWrite name old new (Ok u) = (new.told ≡ with_bytes old.told name []) × (new.writing ≡ Some name)
+    × (new.reading ≡ None)
 BeginsWrite name old new (Err e) = (new.told ≡ old.told) × (new.writing ≡ None) × (new.reading ≡ None)
 
 -- what write answers

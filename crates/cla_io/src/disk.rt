@@ -26,8 +26,10 @@ impl<H: Read + Drop> Opened<H> {
     fn read_on(&mut self, into: &mut [u8]) -> Option<usize>
         ensures name { self.new.name ≡ self.old.name }
         ensures within { IfSome result (λ n. n ≤ length into.new) }
-        ensures place { MatchOption result (self.new.place ≡ self.old.place) (λ n. self.new.place ≡ min (self.old.place + n) counter_end) }
-        ensures reaches { MatchOption result (Keeps (H.remaining self.old.file) (H.remaining self.new.file)) (λ n. Consumes (H.remaining self.old.file) (H.remaining self.new.file) (take n into.new)) }
+        ensures place { MatchOption result (self.new.place ≡ self.old.place)
+            (λ n. self.new.place ≡ min (self.old.place + n) counter_end) }
+        ensures reaches { MatchOption result (Keeps (H.remaining self.old.file) (H.remaining self.new.file))
+            (λ n. Consumes (H.remaining self.old.file) (H.remaining self.new.file) (take n into.new)) }
     {
         let count = self.file.read(into).ok()?;
         self.place = self.place.saturating_add(count as u64);
@@ -51,7 +53,8 @@ impl<H: Write + Drop> Written<H> {
         ensures name { self.new.name ≡ self.old.name }
         ensures some { IfSome result (λ n. 1 ≤ n) }
         ensures within { IfSome result (λ n. n ≤ length piece.now) }
-        ensures reaches { IfSome result (λ n. Appends (H.contents self.old.file) (H.contents self.new.file) (take n piece.now)) }
+        ensures reaches { IfSome result (λ n. Appends (H.contents self.old.file) (H.contents self.new.file)
+            (take n piece.now)) }
     {
         write_some(&mut self.file, piece)
     }
@@ -75,7 +78,15 @@ impl<'r, R: rt::Files> DiskFiles<'r, R> {
 
     /// The files that the runtime reaches.
     pub fn new(rt: &'r R, alloc: Global) -> DiskFiles<'r, R>
-        ensures { ⟦<DiskFiles<'r, R> as Files>⟧.state result ≡ record { told = None; reading = None; writing = None; read_faults = 0; write_faults = 0; misses = 0; steady = false } }
+        ensures { ⟦<DiskFiles<'r, R> as Files>⟧.state result ≡ record {
+          told = None;
+          reading = None;
+          writing = None;
+          read_faults = 0;
+          write_faults = 0;
+          misses = 0;
+          steady = false;
+        } }
     {
         DiskFiles {
             rt,
@@ -110,11 +121,16 @@ impl<'r, R: rt::Files> Files for DiskFiles<'r, R> {
 
     fn begin_read(&mut self, name: &str) -> Result<bool, Stop>
         requires idle { (⟦<DiskFiles<'r, R> as Files>⟧.state self.old).writing ≡ None }
-        ensures frame { OnlyReads (⟦<DiskFiles<'r, R> as Files>⟧.state self.old) (⟦<DiskFiles<'r, R> as Files>⟧.state self.new) }
-        ensures begins { BeginsRead name.now (⟦<DiskFiles<'r, R> as Files>⟧.state self.old) (⟦<DiskFiles<'r, R> as Files>⟧.state self.new) result }
-        ensures cause { HasCause (⟦<DiskFiles<'r, R> as Files>⟧.state self.old).read_faults (⟦<DiskFiles<'r, R> as Files>⟧.state self.new).read_faults result }
-        ensures faults { (⟦<DiskFiles<'r, R> as Files>⟧.state self.new).read_faults ≡ faults_after result (⟦<DiskFiles<'r, R> as Files>⟧.state self.old).read_faults }
-        ensures missed { (⟦<DiskFiles<'r, R> as Files>⟧.state self.new).misses ≡ misses_after result (⟦<DiskFiles<'r, R> as Files>⟧.state self.old).misses }
+        ensures frame { OnlyReads (⟦<DiskFiles<'r, R> as Files>⟧.state self.old)
+            (⟦<DiskFiles<'r, R> as Files>⟧.state self.new) }
+        ensures begins { BeginsRead name.now (⟦<DiskFiles<'r, R> as Files>⟧.state self.old)
+            (⟦<DiskFiles<'r, R> as Files>⟧.state self.new) result }
+        ensures cause { HasCause (⟦<DiskFiles<'r, R> as Files>⟧.state self.old).read_faults
+            (⟦<DiskFiles<'r, R> as Files>⟧.state self.new).read_faults result }
+        ensures faults { (⟦<DiskFiles<'r, R> as Files>⟧.state self.new).read_faults ≡ faults_after result
+            (⟦<DiskFiles<'r, R> as Files>⟧.state self.old).read_faults }
+        ensures missed { (⟦<DiskFiles<'r, R> as Files>⟧.state self.new).misses ≡ misses_after result
+            (⟦<DiskFiles<'r, R> as Files>⟧.state self.old).misses }
     {
         self.reading = None;
         let name = Name::of(self.alloc, name)?;
@@ -141,13 +157,18 @@ impl<'r, R: rt::Files> Files for DiskFiles<'r, R> {
     fn read(&mut self, into: &mut [u8]) -> Result<usize, Stop>
         requires open { IsSome (⟦<DiskFiles<'r, R> as Files>⟧.state self.old).reading }
         requires room { 0 < length into.old }
-        ensures frame { OnlyReads (⟦<DiskFiles<'r, R> as Files>⟧.state self.old) (⟦<DiskFiles<'r, R> as Files>⟧.state self.new) }
-        ensures misses { (⟦<DiskFiles<'r, R> as Files>⟧.state self.new).misses ≡ (⟦<DiskFiles<'r, R> as Files>⟧.state self.old).misses }
-        ensures reads { Reads (⟦<DiskFiles<'r, R> as Files>⟧.state self.old) (⟦<DiskFiles<'r, R> as Files>⟧.state self.new) into.new result }
-        ensures cause { HasCause (⟦<DiskFiles<'r, R> as Files>⟧.state self.old).read_faults (⟦<DiskFiles<'r, R> as Files>⟧.state self.new).read_faults result }
+        ensures frame { OnlyReads (⟦<DiskFiles<'r, R> as Files>⟧.state self.old)
+            (⟦<DiskFiles<'r, R> as Files>⟧.state self.new) }
+        ensures misses { (⟦<DiskFiles<'r, R> as Files>⟧.state self.new).misses
+            ≡ (⟦<DiskFiles<'r, R> as Files>⟧.state self.old).misses }
+        ensures reads { Reads (⟦<DiskFiles<'r, R> as Files>⟧.state self.old)
+            (⟦<DiskFiles<'r, R> as Files>⟧.state self.new) into.new result }
+        ensures cause { HasCause (⟦<DiskFiles<'r, R> as Files>⟧.state self.old).read_faults
+            (⟦<DiskFiles<'r, R> as Files>⟧.state self.new).read_faults result }
         ensures reaches { ReadsFile R.File.remaining self.old.reading self.new.reading into.new result }
         ensures no_memory { result ≢ Err Stop.Memory }
-        ensures faults { (⟦<DiskFiles<'r, R> as Files>⟧.state self.new).read_faults ≡ faults_after result (⟦<DiskFiles<'r, R> as Files>⟧.state self.old).read_faults }
+        ensures faults { (⟦<DiskFiles<'r, R> as Files>⟧.state self.new).read_faults ≡ faults_after result
+            (⟦<DiskFiles<'r, R> as Files>⟧.state self.old).read_faults }
     {
         let Some(opened) = &mut self.reading else {
             unreachable!()
@@ -162,10 +183,14 @@ impl<'r, R: rt::Files> Files for DiskFiles<'r, R> {
     }
 
     fn begin_write(&mut self, name: &str) -> Result<(), Stop>
-        ensures frame { OnlyWrites (⟦<DiskFiles<'r, R> as Files>⟧.state self.old) (⟦<DiskFiles<'r, R> as Files>⟧.state self.new) }
-        ensures begins { BeginsWrite name.now (⟦<DiskFiles<'r, R> as Files>⟧.state self.old) (⟦<DiskFiles<'r, R> as Files>⟧.state self.new) result }
-        ensures cause { HasCause (⟦<DiskFiles<'r, R> as Files>⟧.state self.old).write_faults (⟦<DiskFiles<'r, R> as Files>⟧.state self.new).write_faults result }
-        ensures faults { (⟦<DiskFiles<'r, R> as Files>⟧.state self.new).write_faults ≡ faults_after result (⟦<DiskFiles<'r, R> as Files>⟧.state self.old).write_faults }
+        ensures frame { OnlyWrites (⟦<DiskFiles<'r, R> as Files>⟧.state self.old)
+            (⟦<DiskFiles<'r, R> as Files>⟧.state self.new) }
+        ensures begins { BeginsWrite name.now (⟦<DiskFiles<'r, R> as Files>⟧.state self.old)
+            (⟦<DiskFiles<'r, R> as Files>⟧.state self.new) result }
+        ensures cause { HasCause (⟦<DiskFiles<'r, R> as Files>⟧.state self.old).write_faults
+            (⟦<DiskFiles<'r, R> as Files>⟧.state self.new).write_faults result }
+        ensures faults { (⟦<DiskFiles<'r, R> as Files>⟧.state self.new).write_faults ≡ faults_after result
+            (⟦<DiskFiles<'r, R> as Files>⟧.state self.old).write_faults }
     {
         self.reading = None;
         self.writing = None;
@@ -185,14 +210,20 @@ impl<'r, R: rt::Files> Files for DiskFiles<'r, R> {
     fn write(&mut self, piece: &[u8]) -> Result<usize, Stop>
         requires open { IsSome (⟦<DiskFiles<'r, R> as Files>⟧.state self.old).writing }
         requires some { 0 < length piece.now }
-        ensures frame { OnlyWrites (⟦<DiskFiles<'r, R> as Files>⟧.state self.old) (⟦<DiskFiles<'r, R> as Files>⟧.state self.new) }
-        ensures reading { (⟦<DiskFiles<'r, R> as Files>⟧.state self.new).reading ≡ (⟦<DiskFiles<'r, R> as Files>⟧.state self.old).reading }
-        ensures writing { (⟦<DiskFiles<'r, R> as Files>⟧.state self.new).writing ≡ (⟦<DiskFiles<'r, R> as Files>⟧.state self.old).writing }
-        ensures writes { Writes piece.now (⟦<DiskFiles<'r, R> as Files>⟧.state self.old) (⟦<DiskFiles<'r, R> as Files>⟧.state self.new) result }
-        ensures cause { HasCause (⟦<DiskFiles<'r, R> as Files>⟧.state self.old).write_faults (⟦<DiskFiles<'r, R> as Files>⟧.state self.new).write_faults result }
+        ensures frame { OnlyWrites (⟦<DiskFiles<'r, R> as Files>⟧.state self.old)
+            (⟦<DiskFiles<'r, R> as Files>⟧.state self.new) }
+        ensures reading { (⟦<DiskFiles<'r, R> as Files>⟧.state self.new).reading
+            ≡ (⟦<DiskFiles<'r, R> as Files>⟧.state self.old).reading }
+        ensures writing { (⟦<DiskFiles<'r, R> as Files>⟧.state self.new).writing
+            ≡ (⟦<DiskFiles<'r, R> as Files>⟧.state self.old).writing }
+        ensures writes { Writes piece.now (⟦<DiskFiles<'r, R> as Files>⟧.state self.old)
+            (⟦<DiskFiles<'r, R> as Files>⟧.state self.new) result }
+        ensures cause { HasCause (⟦<DiskFiles<'r, R> as Files>⟧.state self.old).write_faults
+            (⟦<DiskFiles<'r, R> as Files>⟧.state self.new).write_faults result }
         ensures reaches { WritesFile R.File.contents self.old.writing self.new.writing piece.now result }
         ensures no_memory { result ≢ Err Stop.Memory }
-        ensures faults { (⟦<DiskFiles<'r, R> as Files>⟧.state self.new).write_faults ≡ faults_after result (⟦<DiskFiles<'r, R> as Files>⟧.state self.old).write_faults }
+        ensures faults { (⟦<DiskFiles<'r, R> as Files>⟧.state self.new).write_faults ≡ faults_after result
+            (⟦<DiskFiles<'r, R> as Files>⟧.state self.old).write_faults }
     {
         let Some(written) = &mut self.writing else {
             unreachable!()
@@ -209,11 +240,15 @@ impl<'r, R: rt::Files> Files for DiskFiles<'r, R> {
     // A real file is closed where it is dropped, and an error of that isn't told.
     fn end_write(&mut self) -> Result<(), Stop>
         requires { IsSome (⟦<DiskFiles<'r, R> as Files>⟧.state self.old).writing }
-        ensures frame { OnlyWrites (⟦<DiskFiles<'r, R> as Files>⟧.state self.old) (⟦<DiskFiles<'r, R> as Files>⟧.state self.new) }
-        ensures told { (⟦<DiskFiles<'r, R> as Files>⟧.state self.new).told ≡ (⟦<DiskFiles<'r, R> as Files>⟧.state self.old).told }
-        ensures reading { (⟦<DiskFiles<'r, R> as Files>⟧.state self.new).reading ≡ (⟦<DiskFiles<'r, R> as Files>⟧.state self.old).reading }
+        ensures frame { OnlyWrites (⟦<DiskFiles<'r, R> as Files>⟧.state self.old)
+            (⟦<DiskFiles<'r, R> as Files>⟧.state self.new) }
+        ensures told { (⟦<DiskFiles<'r, R> as Files>⟧.state self.new).told
+            ≡ (⟦<DiskFiles<'r, R> as Files>⟧.state self.old).told }
+        ensures reading { (⟦<DiskFiles<'r, R> as Files>⟧.state self.new).reading
+            ≡ (⟦<DiskFiles<'r, R> as Files>⟧.state self.old).reading }
         ensures writing { (⟦<DiskFiles<'r, R> as Files>⟧.state self.new).writing ≡ None }
-        ensures cause { HasCause (⟦<DiskFiles<'r, R> as Files>⟧.state self.old).write_faults (⟦<DiskFiles<'r, R> as Files>⟧.state self.new).write_faults result }
+        ensures cause { HasCause (⟦<DiskFiles<'r, R> as Files>⟧.state self.old).write_faults
+            (⟦<DiskFiles<'r, R> as Files>⟧.state self.new).write_faults result }
         ensures succeeds { IsOk result }
     {
         self.writing = None;

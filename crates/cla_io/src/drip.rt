@@ -51,8 +51,10 @@ impl Files for Drip {
         ensures frame { OnlyReads (⟦<Drip as Files>⟧.state self.old) (⟦<Drip as Files>⟧.state self.new) }
         ensures misses { (⟦<Drip as Files>⟧.state self.new).misses ≡ (⟦<Drip as Files>⟧.state self.old).misses }
         ensures reads { Reads (⟦<Drip as Files>⟧.state self.old) (⟦<Drip as Files>⟧.state self.new) into.new result }
-        ensures cause { HasCause (⟦<Drip as Files>⟧.state self.old).read_faults (⟦<Drip as Files>⟧.state self.new).read_faults result }
-        ensures most { TakesMost (left (⟦<Drip as Files>⟧.state self.old)) (min (length into.old) (most_at_once self.old)) result }
+        ensures cause { HasCause (⟦<Drip as Files>⟧.state self.old).read_faults
+            (⟦<Drip as Files>⟧.state self.new).read_faults result }
+        ensures most { TakesMost (left (⟦<Drip as Files>⟧.state self.old))
+            (min (length into.old) (most_at_once self.old)) result }
     {
         let room = into.len().min(self.most);
         self.files.read(&mut into[..room])
@@ -69,7 +71,8 @@ impl Files for Drip {
         ensures reading { (⟦<Drip as Files>⟧.state self.new).reading ≡ (⟦<Drip as Files>⟧.state self.old).reading }
         ensures writing { (⟦<Drip as Files>⟧.state self.new).writing ≡ (⟦<Drip as Files>⟧.state self.old).writing }
         ensures writes { Writes piece.now (⟦<Drip as Files>⟧.state self.old) (⟦<Drip as Files>⟧.state self.new) result }
-        ensures cause { HasCause (⟦<Drip as Files>⟧.state self.old).write_faults (⟦<Drip as Files>⟧.state self.new).write_faults result }
+        ensures cause { HasCause (⟦<Drip as Files>⟧.state self.old).write_faults
+            (⟦<Drip as Files>⟧.state self.new).write_faults result }
         ensures most { IfOk result (λ n. n ≡ min (length piece.now) (most_at_once self.old)) }
     {
         let most = piece.len().min(self.most);
@@ -80,7 +83,8 @@ impl Files for Drip {
         self.files.end_write()
     }
 
-    ghost faultless = { λ d steady. faultless_files d.files.plan.fail.items (⟦<MemFiles as Files>⟧.state d.files) d.files.unfailing_reads d.files.unfailing_writes steady };
+    ghost faultless = { λ d steady. faultless_files d.files.plan.fail.items (⟦<MemFiles as Files>⟧.state d.files)
+        d.files.unfailing_reads d.files.unfailing_writes steady };
 
     ghost written_there = { λ d. d.files.written };
 }

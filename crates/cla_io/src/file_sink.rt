@@ -39,7 +39,8 @@ impl<F: Files> Sink for FileSink<'_, F> {
 
     ghost steady = { λ s. (F.state s.files.now).steady };
 
-    ghost kept = { λ a b. (a.files.ghost_name ≡ b.files.ghost_name) × KeptFiles (F.state a.files.now) (F.state b.files.now) };
+    ghost kept = { λ a b. (a.files.ghost_name ≡ b.files.ghost_name) × KeptFiles (F.state a.files.now)
+        (F.state b.files.now) };
 
     fn write(&mut self, piece: &[u8]) -> Result<usize, Stop> {
         self.files.write(piece)
@@ -49,5 +50,8 @@ impl<F: Files> Sink for FileSink<'_, F> {
 
     ghost kept_itself = { λ s. (refl, kept_itself (F.state s.files.now)) };
 
-    ghost kept_on = { λ a b c h k. (h.0 ∙ k.0, kept_on (F.state a.files.now) (F.state b.files.now) (F.state c.files.now) h.1 k.1) };
+    ghost kept_on = { λ a b c h k. (
+      h.0 ∙ k.0,
+      kept_on (F.state a.files.now) (F.state b.files.now) (F.state c.files.now) h.1 k.1,
+    ) };
 }

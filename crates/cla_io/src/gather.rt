@@ -25,7 +25,8 @@ pub(crate) fn gather<F: Files>(
     requires small { room ≤ 2 ^ 32 }
     ensures frame { ReadsOn (F.state files.old) (F.state files.new) }
     ensures cause { InCause (F.state files.old).read_faults (F.state files.new).read_faults result }
-    ensures line { GathersWhereTold room line.new.items (with_left (items window.old) (left (F.state files.old))) (with_left (items window.new) (left (F.state files.new))) result }
+    ensures line { GathersWhereTold room line.new.items (with_left (items window.old) (left (F.state files.old)))
+        (with_left (items window.new) (left (F.state files.new))) result }
     ensures in_room { InRoom room line.new.items result }
 {
     match window.move_to(line) {
@@ -70,7 +71,8 @@ pub(crate) fn read_all<F: Files>(
     requires { IsSome (F.state files.old).reading }
     ensures frame { ReadsOn (F.state files.old) (F.state files.new) }
     ensures cause { InCause (F.state files.old).read_faults (F.state files.new).read_faults result }
-    ensures all { TakesAllWhereTold limit (with_left (items window.old) (left (F.state files.old))) (with_left (items window.new) (left (F.state files.new))) result }
+    ensures all { TakesAllWhereTold limit (with_left (items window.old) (left (F.state files.old)))
+        (with_left (items window.new) (left (F.state files.new))) result }
     ensures in_limit { IfOk result (λ all. length all.items ≤ limit) }
 {
     let mut all = Vec::new(alloc);

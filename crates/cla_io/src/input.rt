@@ -3,6 +3,7 @@
 ghost use Rattle.std.specs.Prelude.{◌≡◌, ◌+◌, ◌<◌, ◌≤◌, ◌^◌, [], false, true, Ok, Some, IsSome, IsOk, IfOk, OnOk};
 ghost use Rattle.cla_io.specs.State.{left};
 ghost use Rattle.cla_io.specs.Lines.{TakesLine, TakesLineWhereTold, IsLfPlace, CountsLine, TakesWholeWhereTold, CountsWhole, InCause, ahead_of, line_number_of, line_width};
+ghost use Rattle.cla_io.specs.Ahead.{AreLines, ahead_in_limit, after_lines};
 ghost use Rattle.cla_io.specs.InputFrame.{ReadsOn, IsAtStart};
 
 use crate::files::Files;
@@ -14,8 +15,8 @@ use std::alloc::Global;
 /// A file that is being read, and what was taken of it, in `B`. [`Input`] is the only one in use:
 /// the parameter lets a caller know its files once an input is gone.
 pub struct InputOver<'a, F: Files, B: Drop> {
-    files: &'a mut F,
-    taken: B,
+    pub(crate) files: &'a mut F,
+    pub(crate) taken: B,
     ghost open: { IsSome (F.state files.now).reading },
 }
 
@@ -42,7 +43,8 @@ impl<'a, F: Files> InputOver<'a, F, Taken> {
         ensures succeeds { IsOk result }
         ensures same_reference { IfOk result (λ input. input.files.ghost_name ≡ files.entry.ghost_name) }
         ensures same { IfOk result (λ input. input.files.now ≡ files.old) }
-        ensures nothing_taken { IfOk result (λ input. input.taken ≡ record { ahead = []; at = 0; limit = limit; line = []; lines = 0; ended = false }) }
+        ensures nothing_taken { IfOk result
+            (λ input. input.taken ≡ record { ahead = []; at = 0; limit = limit; line = []; lines = 0; ended = false }) }
     {
         Ok(InputOver {
             files,
@@ -57,12 +59,16 @@ impl<'a, F: Files> InputOver<'a, F, Taken> {
     pub fn next_line(&mut self) -> Result<bool, InFault>
         ensures same_reference { self.new.files.ghost_name ≡ self.old.files.ghost_name }
         ensures frame { ReadsOn (F.state self.old.files.now) (F.state self.new.files.now) }
-        ensures cause { InCause (F.state self.old.files.now).read_faults (F.state self.new.files.now).read_faults result }
+        ensures cause { InCause (F.state self.old.files.now).read_faults
+            (F.state self.new.files.now).read_faults result }
         ensures limit { self.new.taken.limit ≡ self.old.taken.limit }
-        ensures line { TakesLineWhereTold self.old.taken self.new.taken (ahead_of self.old.taken (left (F.state self.old.files.now))) (ahead_of self.new.taken (left (F.state self.new.files.now))) result }
+        ensures line { TakesLineWhereTold self.old.taken self.new.taken
+            (ahead_of self.old.taken (left (F.state self.old.files.now)))
+            (ahead_of self.new.taken (left (F.state self.new.files.now))) result }
         ensures in_limit { OnOk result (self.new.taken.at ≤ self.new.taken.limit) }
         ensures count { CountsLine self.old.taken self.new.taken result }
         ensures few { self.new.taken.lines ≤ self.new.taken.limit }
+        ensures counted { self.old.taken.lines ≤ self.old.taken.at }
     {
         match self.taken.lf_ahead() {
             Some(place) => self.taken.take_held(place),
@@ -91,13 +97,38 @@ impl<'a, F: Files> InputOver<'a, F, Taken> {
         ensures limit { self.new.taken.limit ≡ self.old.taken.limit }
         ensures same { result ≡ false → self.new.taken ≡ self.old.taken }
         ensures too_long { result ≡ false → self.old.taken.limit < self.old.taken.at + line_width self.old.taken.ahead }
-        ensures held { result ≡ true → TakesLine self.old.taken self.new.taken self.old.taken.ahead self.new.taken.ahead (Ok true) }
-        ensures line { result ≡ true → TakesLineWhereTold self.old.taken self.new.taken (ahead_of self.old.taken (left (F.state self.old.files.now))) (ahead_of self.new.taken (left (F.state self.new.files.now))) (Ok true) }
+        ensures held { result ≡ true → TakesLine self.old.taken self.new.taken self.old.taken.ahead self.new.taken.ahead
+            (Ok true) }
+        ensures line { result ≡ true → TakesLineWhereTold self.old.taken self.new.taken
+            (ahead_of self.old.taken (left (F.state self.old.files.now)))
+            (ahead_of self.new.taken (left (F.state self.new.files.now))) (Ok true) }
         ensures count { result ≡ true → CountsLine self.old.taken self.new.taken (Ok true) }
         ensures few { self.new.taken.lines ≤ self.new.taken.limit }
         ensures in_limit { self.new.taken.at ≤ self.new.taken.limit }
     {
         self.taken.take_held(place).is_ok()
+    }
+
+    /// Those of the bytes that are held which stand before the limit. A caller that finds lines among them
+    /// takes them by [`InputOver::take_lines`].
+    #[inline(always)]
+    pub fn ahead_in_limit(&self) -> &[u8]
+        ensures bytes { result.now ≡ ahead_in_limit self.now.taken }
+        ensures in_limit { self.now.taken.at ≤ self.now.taken.limit }
+    {
+        self.taken.ahead_in_limit()
+    }
+
+    /// Takes the next lines at once, as many calls of `next_line` would: so many lines of the bytes that are
+    /// held before the limit, with their LFs `width` bytes. None of them is kept: `line` is empty afterwards.
+    #[inline(always)]
+    pub fn take_lines(&mut self, count: u64, width: usize)
+        requires { AreLines (ahead_in_limit self.old.taken) count width }
+        ensures same_reference { self.new.files.ghost_name ≡ self.old.files.ghost_name }
+        ensures same_files { self.new.files.now ≡ self.old.files.now }
+        ensures taken { self.new.taken ≡ after_lines self.old.taken count width }
+    {
+        self.taken.take_lines(count, width)
     }
 
     /// Takes all bytes of the file, as they are. `TooLong` comes exactly where a byte past the limit
@@ -106,9 +137,12 @@ impl<'a, F: Files> InputOver<'a, F, Taken> {
         requires { self.old.taken.at ≡ 0 }
         ensures same_reference { self.new.files.ghost_name ≡ self.old.files.ghost_name }
         ensures frame { ReadsOn (F.state self.old.files.now) (F.state self.new.files.now) }
-        ensures cause { InCause (F.state self.old.files.now).read_faults (F.state self.new.files.now).read_faults result }
+        ensures cause { InCause (F.state self.old.files.now).read_faults
+            (F.state self.new.files.now).read_faults result }
         ensures limit { self.new.taken.limit ≡ self.old.taken.limit }
-        ensures whole { TakesWholeWhereTold self.old.taken self.new.taken (ahead_of self.old.taken (left (F.state self.old.files.now))) (ahead_of self.new.taken (left (F.state self.new.files.now))) result }
+        ensures whole { TakesWholeWhereTold self.old.taken self.new.taken
+            (ahead_of self.old.taken (left (F.state self.old.files.now)))
+            (ahead_of self.new.taken (left (F.state self.new.files.now))) result }
         ensures count { CountsWhole self.old.taken self.new.taken result }
     {
         self.taken.take_all(self.files)

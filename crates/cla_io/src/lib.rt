@@ -2,8 +2,6 @@
 #![tactic(auto)]
 
 mod disk;
-#[cfg(test)]
-mod disk_tests;
 mod drip;
 mod file_sink;
 mod files;
@@ -13,17 +11,14 @@ mod last_line;
 mod mem_files;
 mod mem_map;
 mod mem_sink;
+mod numbers;
 mod plan;
 mod put;
 mod sink;
 mod std_sink;
 mod stop;
 mod taken;
-#[cfg(test)]
-mod tests;
 mod window;
-#[cfg(test)]
-mod write_tests;
 
 pub use disk::DiskFiles;
 pub use drip::Drip;

@@ -31,8 +31,10 @@ impl Opened {
         requires { 0 < length into.old }
         ensures name { self.new.name ≡ self.old.name }
         ensures place { self.new.place ≡ self.old.place + result }
-        ensures most { result ≡ min (length (drop self.old.place (bytes_at (told_of files.now.entries) self.old.name))) (length into.new) }
-        ensures takes { Takes (Some (drop self.old.place (bytes_at (told_of files.now.entries) self.old.name))) into.new result (Some (drop self.new.place (bytes_at (told_of files.now.entries) self.old.name))) }
+        ensures most { result ≡ min (length (drop self.old.place (bytes_at (told_of files.now.entries) self.old.name)))
+            (length into.new) }
+        ensures takes { Takes (Some (drop self.old.place (bytes_at (told_of files.now.entries) self.old.name))) into.new
+            result (Some (drop self.new.place (bytes_at (told_of files.now.entries) self.old.name))) }
     {
         let count = copy_front(rest_of(files, &self.name, self.place), into);
         self.place += count;
@@ -66,7 +68,16 @@ impl MemFiles {
     /// Files of these bytes, whose n-th call of a kind fails exactly where `fail` has the kind with
     /// n, from 1.
     pub fn new(files: BTreeMap<Name, Vec<u8>>, fail: Vec<(CallKind, u64)>) -> MemFiles
-        ensures state { ⟦<MemFiles as Files>⟧.state result ≡ record { told = Some (told_of files.entries); reading = None; writing = None; read_faults = 0; write_faults = 0; misses = 0; steady = is_empty_list fail.items } }
+        ensures state { ⟦<MemFiles as Files>⟧.state result ≡ record {
+          told = Some (told_of files.entries);
+          reading =
+              None;
+          writing = None;
+          read_faults = 0;
+          write_faults = 0;
+          misses = 0;
+          steady = is_empty_list fail.items;
+        } }
         ensures failing { failing_calls result ≡ fail.items }
         ensures none { calls_made result ≡ no_calls }
     {
@@ -114,13 +125,18 @@ impl Files for MemFiles {
     fn begin_read(&mut self, name: &str) -> Result<bool, Stop>
         requires idle { (⟦<MemFiles as Files>⟧.state self.old).writing ≡ None }
         ensures frame { OnlyReads (⟦<MemFiles as Files>⟧.state self.old) (⟦<MemFiles as Files>⟧.state self.new) }
-        ensures begins { BeginsRead name.now (⟦<MemFiles as Files>⟧.state self.old) (⟦<MemFiles as Files>⟧.state self.new) result }
-        ensures cause { HasCause (⟦<MemFiles as Files>⟧.state self.old).read_faults (⟦<MemFiles as Files>⟧.state self.new).read_faults result }
+        ensures begins { BeginsRead name.now (⟦<MemFiles as Files>⟧.state self.old)
+            (⟦<MemFiles as Files>⟧.state self.new) result }
+        ensures cause { HasCause (⟦<MemFiles as Files>⟧.state self.old).read_faults
+            (⟦<MemFiles as Files>⟧.state self.new).read_faults result }
         ensures numbered { calls_made self.new ≡ one_more BeginRead (calls_made self.old) }
         ensures planned { failing_calls self.new ≡ failing_calls self.old }
-        ensures fails { (result ≡ Err Stop.Failed) ↔ Contains (failing_calls self.old) (BeginRead, number_of BeginRead (calls_made self.new)) }
-        ensures faults { (⟦<MemFiles as Files>⟧.state self.new).read_faults ≡ faults_after result (⟦<MemFiles as Files>⟧.state self.old).read_faults }
-        ensures missed { (⟦<MemFiles as Files>⟧.state self.new).misses ≡ misses_after result (⟦<MemFiles as Files>⟧.state self.old).misses }
+        ensures fails { (result ≡ Err Stop.Failed) ↔ Contains (failing_calls self.old)
+            (BeginRead, number_of BeginRead (calls_made self.new)) }
+        ensures faults { (⟦<MemFiles as Files>⟧.state self.new).read_faults ≡ faults_after result
+            (⟦<MemFiles as Files>⟧.state self.old).read_faults }
+        ensures missed { (⟦<MemFiles as Files>⟧.state self.new).misses ≡ misses_after result
+            (⟦<MemFiles as Files>⟧.state self.old).misses }
     {
         self.reading = None;
         if self.plan.fails(CallKind::BeginRead) {
@@ -141,14 +157,18 @@ impl Files for MemFiles {
         requires room { 0 < length into.old }
         ensures frame { OnlyReads (⟦<MemFiles as Files>⟧.state self.old) (⟦<MemFiles as Files>⟧.state self.new) }
         ensures misses { (⟦<MemFiles as Files>⟧.state self.new).misses ≡ (⟦<MemFiles as Files>⟧.state self.old).misses }
-        ensures reads { Reads (⟦<MemFiles as Files>⟧.state self.old) (⟦<MemFiles as Files>⟧.state self.new) into.new result }
+        ensures reads { Reads (⟦<MemFiles as Files>⟧.state self.old) (⟦<MemFiles as Files>⟧.state self.new) into.new
+            result }
         ensures no_memory { result ≢ Err Stop.Memory }
         ensures most { TakesMost (left (⟦<MemFiles as Files>⟧.state self.old)) (length into.old) result }
-        ensures cause { HasCause (⟦<MemFiles as Files>⟧.state self.old).read_faults (⟦<MemFiles as Files>⟧.state self.new).read_faults result }
+        ensures cause { HasCause (⟦<MemFiles as Files>⟧.state self.old).read_faults
+            (⟦<MemFiles as Files>⟧.state self.new).read_faults result }
         ensures numbered { calls_made self.new ≡ one_more Read (calls_made self.old) }
         ensures planned { failing_calls self.new ≡ failing_calls self.old }
-        ensures fails { (result ≡ Err Stop.Failed) ↔ Contains (failing_calls self.old) (Read, number_of Read (calls_made self.new)) }
-        ensures faults { (⟦<MemFiles as Files>⟧.state self.new).read_faults ≡ faults_after result (⟦<MemFiles as Files>⟧.state self.old).read_faults }
+        ensures fails { (result ≡ Err Stop.Failed) ↔ Contains (failing_calls self.old)
+            (Read, number_of Read (calls_made self.new)) }
+        ensures faults { (⟦<MemFiles as Files>⟧.state self.new).read_faults ≡ faults_after result
+            (⟦<MemFiles as Files>⟧.state self.old).read_faults }
     {
         if self.plan.fails(CallKind::Read) {
             self.read_faults = self.read_faults.saturating_add(1);
@@ -162,12 +182,16 @@ impl Files for MemFiles {
 
     fn begin_write(&mut self, name: &str) -> Result<(), Stop>
         ensures frame { OnlyWrites (⟦<MemFiles as Files>⟧.state self.old) (⟦<MemFiles as Files>⟧.state self.new) }
-        ensures begins { BeginsWrite name.now (⟦<MemFiles as Files>⟧.state self.old) (⟦<MemFiles as Files>⟧.state self.new) result }
-        ensures cause { HasCause (⟦<MemFiles as Files>⟧.state self.old).write_faults (⟦<MemFiles as Files>⟧.state self.new).write_faults result }
+        ensures begins { BeginsWrite name.now (⟦<MemFiles as Files>⟧.state self.old)
+            (⟦<MemFiles as Files>⟧.state self.new) result }
+        ensures cause { HasCause (⟦<MemFiles as Files>⟧.state self.old).write_faults
+            (⟦<MemFiles as Files>⟧.state self.new).write_faults result }
         ensures numbered { calls_made self.new ≡ one_more BeginWrite (calls_made self.old) }
         ensures planned { failing_calls self.new ≡ failing_calls self.old }
-        ensures fails { (result ≡ Err Stop.Failed) ↔ Contains (failing_calls self.old) (BeginWrite, number_of BeginWrite (calls_made self.new)) }
-        ensures faults { (⟦<MemFiles as Files>⟧.state self.new).write_faults ≡ faults_after result (⟦<MemFiles as Files>⟧.state self.old).write_faults }
+        ensures fails { (result ≡ Err Stop.Failed) ↔ Contains (failing_calls self.old)
+            (BeginWrite, number_of BeginWrite (calls_made self.new)) }
+        ensures faults { (⟦<MemFiles as Files>⟧.state self.new).write_faults ≡ faults_after result
+            (⟦<MemFiles as Files>⟧.state self.old).write_faults }
     {
         self.reading = None;
         self.writing = None;
@@ -187,15 +211,21 @@ impl Files for MemFiles {
         requires open { IsSome (⟦<MemFiles as Files>⟧.state self.old).writing }
         requires some { 0 < length piece.now }
         ensures frame { OnlyWrites (⟦<MemFiles as Files>⟧.state self.old) (⟦<MemFiles as Files>⟧.state self.new) }
-        ensures reading { (⟦<MemFiles as Files>⟧.state self.new).reading ≡ (⟦<MemFiles as Files>⟧.state self.old).reading }
-        ensures writing { (⟦<MemFiles as Files>⟧.state self.new).writing ≡ (⟦<MemFiles as Files>⟧.state self.old).writing }
-        ensures writes { Writes piece.now (⟦<MemFiles as Files>⟧.state self.old) (⟦<MemFiles as Files>⟧.state self.new) result }
-        ensures cause { HasCause (⟦<MemFiles as Files>⟧.state self.old).write_faults (⟦<MemFiles as Files>⟧.state self.new).write_faults result }
+        ensures reading { (⟦<MemFiles as Files>⟧.state self.new).reading
+            ≡ (⟦<MemFiles as Files>⟧.state self.old).reading }
+        ensures writing { (⟦<MemFiles as Files>⟧.state self.new).writing
+            ≡ (⟦<MemFiles as Files>⟧.state self.old).writing }
+        ensures writes { Writes piece.now (⟦<MemFiles as Files>⟧.state self.old) (⟦<MemFiles as Files>⟧.state self.new)
+            result }
+        ensures cause { HasCause (⟦<MemFiles as Files>⟧.state self.old).write_faults
+            (⟦<MemFiles as Files>⟧.state self.new).write_faults result }
         ensures whole { IfOk result (λ n. n ≡ length piece.now) }
         ensures numbered { calls_made self.new ≡ one_more Write (calls_made self.old) }
         ensures planned { failing_calls self.new ≡ failing_calls self.old }
-        ensures fails { (result ≡ Err Stop.Failed) ↔ Contains (failing_calls self.old) (Write, number_of Write (calls_made self.new)) }
-        ensures faults { (⟦<MemFiles as Files>⟧.state self.new).write_faults ≡ faults_after result (⟦<MemFiles as Files>⟧.state self.old).write_faults }
+        ensures fails { (result ≡ Err Stop.Failed) ↔ Contains (failing_calls self.old)
+            (Write, number_of Write (calls_made self.new)) }
+        ensures faults { (⟦<MemFiles as Files>⟧.state self.new).write_faults ≡ faults_after result
+            (⟦<MemFiles as Files>⟧.state self.old).write_faults }
     {
         if self.plan.fails(CallKind::Write) {
             self.write_faults = self.write_faults.saturating_add(1);
@@ -212,14 +242,18 @@ impl Files for MemFiles {
         requires { IsSome (⟦<MemFiles as Files>⟧.state self.old).writing }
         ensures frame { OnlyWrites (⟦<MemFiles as Files>⟧.state self.old) (⟦<MemFiles as Files>⟧.state self.new) }
         ensures told { (⟦<MemFiles as Files>⟧.state self.new).told ≡ (⟦<MemFiles as Files>⟧.state self.old).told }
-        ensures reading { (⟦<MemFiles as Files>⟧.state self.new).reading ≡ (⟦<MemFiles as Files>⟧.state self.old).reading }
+        ensures reading { (⟦<MemFiles as Files>⟧.state self.new).reading
+            ≡ (⟦<MemFiles as Files>⟧.state self.old).reading }
         ensures writing { (⟦<MemFiles as Files>⟧.state self.new).writing ≡ None }
-        ensures cause { HasCause (⟦<MemFiles as Files>⟧.state self.old).write_faults (⟦<MemFiles as Files>⟧.state self.new).write_faults result }
+        ensures cause { HasCause (⟦<MemFiles as Files>⟧.state self.old).write_faults
+            (⟦<MemFiles as Files>⟧.state self.new).write_faults result }
         ensures no_memory { result ≢ Err Stop.Memory }
         ensures numbered { calls_made self.new ≡ one_more EndWrite (calls_made self.old) }
         ensures planned { failing_calls self.new ≡ failing_calls self.old }
-        ensures fails { (result ≡ Err Stop.Failed) ↔ Contains (failing_calls self.old) (EndWrite, number_of EndWrite (calls_made self.new)) }
-        ensures faults { (⟦<MemFiles as Files>⟧.state self.new).write_faults ≡ faults_after result (⟦<MemFiles as Files>⟧.state self.old).write_faults }
+        ensures fails { (result ≡ Err Stop.Failed) ↔ Contains (failing_calls self.old)
+            (EndWrite, number_of EndWrite (calls_made self.new)) }
+        ensures faults { (⟦<MemFiles as Files>⟧.state self.new).write_faults ≡ faults_after result
+            (⟦<MemFiles as Files>⟧.state self.old).write_faults }
     {
         self.writing = None;
         if self.plan.fails(CallKind::EndWrite) {
@@ -229,7 +263,8 @@ impl Files for MemFiles {
         Ok(())
     }
 
-    ghost faultless = { λ m steady. faultless_files m.plan.fail.items (⟦<MemFiles as Files>⟧.state m) m.unfailing_reads m.unfailing_writes steady };
+    ghost faultless = { λ m steady. faultless_files m.plan.fail.items (⟦<MemFiles as Files>⟧.state m) m.unfailing_reads
+        m.unfailing_writes steady };
 
     ghost written_there = { λ m. m.written };
 }

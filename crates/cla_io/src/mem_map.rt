@@ -86,7 +86,8 @@ pub(crate) fn append(
     piece: &[u8],
 ) -> Result<(), Memory>
     requires { IsSome (fin.get (told_of files.old.entries) name.now) }
-    ensures told { OnOk result (told_of files.new.entries ≡ fin.insert (told_of files.old.entries) name.now (bytes_at (told_of files.old.entries) name.now ++ piece.now)) }
+    ensures told { OnOk result (told_of files.new.entries ≡ fin.insert (told_of files.old.entries) name.now
+        (bytes_at (told_of files.old.entries) name.now ++ piece.now)) }
     ensures same { OnErr result (told_of files.new.entries ≡ told_of files.old.entries) }
 {
     let Some(bytes) = files.get_mut(name) else {

@@ -62,13 +62,15 @@ impl Sink for MemSink {
 
     fn write(&mut self, piece: &[u8]) -> Result<usize, Stop>
         requires { 0 < length piece.now }
-        ensures writes { SinkWrites piece.now (⟦<MemSink as Sink>⟧.told self.old) (⟦<MemSink as Sink>⟧.told self.new) result }
+        ensures writes { SinkWrites piece.now (⟦<MemSink as Sink>⟧.told self.old) (⟦<MemSink as Sink>⟧.told self.new)
+            result }
         ensures later { ⟦<MemSink as Sink>⟧.faults self.old ≤ ⟦<MemSink as Sink>⟧.faults self.new }
         ensures steady { ⟦<MemSink as Sink>⟧.steady self.new ≡ ⟦<MemSink as Sink>⟧.steady self.old }
         ensures kept { ⟦<MemSink as Sink>⟧.kept self.old self.new }
         ensures cause { HasCause (⟦<MemSink as Sink>⟧.faults self.old) (⟦<MemSink as Sink>⟧.faults self.new) result }
         ensures whole { IfOk result (λ n. n ≡ length piece.now) }
-        ensures counted { ⟦<MemSink as Sink>⟧.faults self.new ≡ faults_after result (⟦<MemSink as Sink>⟧.faults self.old) }
+        ensures counted { ⟦<MemSink as Sink>⟧.faults self.new ≡ faults_after result
+            (⟦<MemSink as Sink>⟧.faults self.old) }
         ensures numbered { writes_made self.new ≡ next_call (writes_made self.old) }
         ensures planned { failing_writes self.new ≡ failing_writes self.old }
         ensures fails { (result ≡ Err Stop.Failed) ↔ Contains (failing_writes self.old) (writes_made self.new) }

@@ -45,14 +45,18 @@ impl<W: Write + Drop> Sink for StdSink<W> {
 
     fn write(&mut self, piece: &[u8]) -> Result<usize, Stop>
         requires { 0 < length piece.now }
-        ensures writes { SinkWrites piece.now (⟦<StdSink<W> as Sink>⟧.told self.old) (⟦<StdSink<W> as Sink>⟧.told self.new) result }
+        ensures writes { SinkWrites piece.now (⟦<StdSink<W> as Sink>⟧.told self.old)
+            (⟦<StdSink<W> as Sink>⟧.told self.new) result }
         ensures later { ⟦<StdSink<W> as Sink>⟧.faults self.old ≤ ⟦<StdSink<W> as Sink>⟧.faults self.new }
         ensures steady { ⟦<StdSink<W> as Sink>⟧.steady self.new ≡ ⟦<StdSink<W> as Sink>⟧.steady self.old }
         ensures kept { ⟦<StdSink<W> as Sink>⟧.kept self.old self.new }
-        ensures cause { HasCause (⟦<StdSink<W> as Sink>⟧.faults self.old) (⟦<StdSink<W> as Sink>⟧.faults self.new) result }
+        ensures cause { HasCause (⟦<StdSink<W> as Sink>⟧.faults self.old) (⟦<StdSink<W> as Sink>⟧.faults self.new)
+            result }
         ensures no_memory { result ≢ Err Stop.Memory }
-        ensures counted { ⟦<StdSink<W> as Sink>⟧.faults self.new ≡ faults_after result (⟦<StdSink<W> as Sink>⟧.faults self.old) }
-        ensures reaches { IfOk result (λ n. Appends (W.contents (writer_of self.old)) (W.contents (writer_of self.new)) (take n piece.now)) }
+        ensures counted { ⟦<StdSink<W> as Sink>⟧.faults self.new ≡ faults_after result
+            (⟦<StdSink<W> as Sink>⟧.faults self.old) }
+        ensures reaches { IfOk result (λ n. Appends (W.contents (writer_of self.old)) (W.contents (writer_of self.new))
+            (take n piece.now)) }
     {
         match write_some(&mut self.inner, piece) {
             Some(count) => Ok(count),

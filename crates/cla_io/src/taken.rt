@@ -4,6 +4,7 @@ ghost use Rattle.std.specs.Prelude.{◌≡◌, ◌≤◌, ◌^◌, [], length, t
 ghost use Rattle.cla_spec.specs.Lines.{without_cr};
 ghost use Rattle.cla_io.specs.State.{left};
 ghost use Rattle.cla_io.specs.Lines.{TakesLine, TakesLineWhereTold, TakesWholeWhereTold, CountsLine, CountsWhole, OnlyTooLong, IsLfPlace, InCause, HasNoLf, ahead_of, line_number_of};
+ghost use Rattle.cla_io.specs.Ahead.{AreLines, ahead_in_limit, after_lines};
 ghost use Rattle.cla_io.specs.InputFrame.{ReadsOn};
 
 use crate::files::Files;
@@ -17,10 +18,10 @@ use std::marker::Model;
 /// The bytes that are held, the line that was taken last, and how much was taken.
 #[derive(Drop)]
 pub struct Taken {
-    window: Window,
-    last: LastLine,
-    limit: u64,
-    at: u64,
+    pub(crate) window: Window,
+    pub(crate) last: LastLine,
+    pub(crate) limit: u64,
+    pub(crate) at: u64,
     lines: u64,
     ended: bool,
 }
@@ -92,9 +93,36 @@ impl Taken {
         self.window.as_slice()
     }
 
+    // Those of them that stand before the limit.
+    #[inline(always)]
+    pub(crate) fn ahead_in_limit(&self) -> &[u8]
+        ensures bytes { result.now ≡ ahead_in_limit self.now }
+        ensures in_limit { self.now.at ≤ self.now.limit }
+    {
+        let held = self.window.as_slice();
+        let room = (self.limit - self.at) as usize;
+        &held[..room.min(held.len())]
+    }
+
+    // Takes so many lines, and keeps none of them.
+    #[inline(always)]
+    #[tactic(auto, using(crate::proofs::AheadLaws::held_lines))]
+    pub(crate) fn take_lines(&mut self, count: u64, width: usize)
+        requires { AreLines (ahead_in_limit self.old) count width }
+        ensures { self.new ≡ after_lines self.old count width }
+    {
+        self.window.consume(width);
+        let start = self.window.start;
+        self.last = LastLine::Held { start, end: start };
+        self.at += width as u64;
+        self.lines += count;
+        self.ended = false;
+    }
+
     // Where the next LF stands among them, if there is one.
     pub(crate) fn lf_ahead(&self) -> Option<usize>
-        ensures { IsLfPlace self.now.ahead result }
+        ensures place { IsLfPlace self.now.ahead result }
+        ensures counted { self.now.lines ≤ self.now.at }
     {
         self.window.lf_place()
     }
@@ -133,7 +161,8 @@ impl Taken {
         ensures frame { ReadsOn (F.state files.old) (F.state files.new) }
         ensures cause { InCause (F.state files.old).read_faults (F.state files.new).read_faults result }
         ensures limit { self.new.limit ≡ self.old.limit }
-        ensures line { TakesLineWhereTold self.old self.new (ahead_of self.old (left (F.state files.old))) (ahead_of self.new (left (F.state files.new))) result }
+        ensures line { TakesLineWhereTold self.old self.new (ahead_of self.old (left (F.state files.old)))
+            (ahead_of self.new (left (F.state files.new))) result }
         ensures count { CountsLine self.old self.new result }
         ensures few { self.new.lines ≤ self.new.limit }
         ensures in_limit { self.new.at ≤ self.new.limit }
@@ -168,7 +197,8 @@ impl Taken {
         ensures frame { ReadsOn (F.state files.old) (F.state files.new) }
         ensures cause { InCause (F.state files.old).read_faults (F.state files.new).read_faults result }
         ensures limit { self.new.limit ≡ self.old.limit }
-        ensures whole { TakesWholeWhereTold self.old self.new (ahead_of self.old (left (F.state files.old))) (ahead_of self.new (left (F.state files.new))) result }
+        ensures whole { TakesWholeWhereTold self.old self.new (ahead_of self.old (left (F.state files.old)))
+            (ahead_of self.new (left (F.state files.new))) result }
         ensures count { CountsWhole self.old self.new result }
     {
         let alloc = *self.window.bytes.allocator();

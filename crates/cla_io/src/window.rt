@@ -23,6 +23,7 @@ pub(crate) struct Window {
     pub(crate) end: usize,
     ghost ordered: { start ≤ end },
     ghost within: { end ≤ length bytes.items },
+    ghost roomy: { 0 < length bytes.items → 8 ≤ length bytes.items },
 }
 
 impl Window {
@@ -80,7 +81,8 @@ impl Window {
         ensures frame { ReadsOn (F.state files.old) (F.state files.new) }
         ensures cause { InCause (F.state files.old).read_faults (F.state files.new).read_faults result }
         ensures not_too_long { IsNotTooLong result }
-        ensures content { OnOk result (SameBytes [] (left (F.state files.old)) (items self.new) (left (F.state files.new))) }
+        ensures content { OnOk result (SameBytes [] (left (F.state files.old)) (items self.new)
+            (left (F.state files.new))) }
         ensures more { IfOk result (λ n. length (items self.new) ≡ n) }
         ensures all { IfOk result (λ n. n ≡ 0 → IsAllRead (left (F.state files.new))) }
     {
@@ -100,8 +102,9 @@ impl Window {
     }
 
     // Takes the buffer's memory, once.
-    fn take_memory(&mut self) -> Result<(), Memory>
-        ensures ready { OnOk result (0 < length self.new.bytes.items) }
+    pub(crate) fn take_memory(&mut self) -> Result<(), Memory>
+        ensures same { items self.new ≡ items self.old }
+        ensures ready { OnOk result (8 ≤ length self.new.bytes.items) }
     {
         if self.bytes.is_empty() {
             self.start = 0;

@@ -20,7 +20,8 @@ occurring codes tuples k c = value_of tuples k c *ℤ pos (occurrences_of codes 
 
 -- the sum of all cells, tuple by tuple
 pub sum_by_tuples : (bits width : ℕ) (codes : List ℕ) (tuples : List (List ℤ)) → IsGroup bits width codes tuples
-    → sum_of_entries (length codes) width (cell_of codes tuples) ≡ sum_to (λ k. sum_to (λ c. occurring codes tuples k c) width)
+    → sum_of_entries (length codes) width (cell_of codes tuples)
+    ≡ sum_to (λ k. sum_to (λ c. occurring codes tuples k c) width)
     (length tuples)
 sum_by_tuples bits width codes tuples is =
     regroup (λ k. sum_to (λ c. value_of tuples k c) width) codes (length tuples) is.in_tuples
@@ -30,16 +31,19 @@ sum_by_tuples bits width codes tuples is =
     (sum_to-times (λ c. value_of tuples k c) (pos (occurrences_of codes k)) width))
 
 -- there are no more tuples than rows
-pub tuples_few : (bits width : ℕ) (codes : List ℕ) (tuples : List (List ℤ)) → IsGroup bits width codes tuples → length tuples ≤ length codes
+pub tuples_few : (bits width : ℕ) (codes : List ℕ) (tuples : List (List ℤ)) → IsGroup bits width codes tuples →
+    length tuples ≤ length codes
 tuples_few bits width codes tuples is = used_few codes (length tuples) is.used
 
 -- and no more values than cells
 pub values_few : (bits width : ℕ) (codes : List ℕ) (tuples : List (List ℤ)) → IsGroup bits width codes tuples
     → length tuples * width ≤ most_cells
-values_few bits width codes tuples is = omega (arith, is.few_cells, mul-le-mul_right width (tuples_few bits width codes tuples is))
+values_few bits width codes tuples is =
+    omega (arith, is.few_cells, mul-le-mul_right width (tuples_few bits width codes tuples is))
 
 -- how large a value is as often as its tuple occurs
-pub occurring_size : (bits width : ℕ) (codes : List ℕ) (tuples : List (List ℤ)) → IsGroup bits width codes tuples → IsSupported bits
+pub occurring_size : (bits width : ℕ) (codes : List ℕ) (tuples : List (List ℤ)) → IsGroup bits width codes tuples →
+    IsSupported bits
     → (k c : ℕ) → k < length tuples → c < width → unsigned_abs (occurring codes tuples k c) ≤ value_bound * most_cells
 occurring_size bits width codes tuples is supported k c there place =
     let few : occurrences_of codes k ≤ most_cells =
@@ -48,18 +52,24 @@ occurring_size bits width codes tuples is supported k c there place =
     (value_size bits (value_of tuples k c) supported (is.small k c there place)) few
 
 -- how large the sum of a tuple's first n values can be, and the sum over the first n tuples
-pub tuple_sum_size : (bits width : ℕ) (codes : List ℕ) (tuples : List (List ℤ)) → IsGroup bits width codes tuples → IsSupported bits
-    → (k n : ℕ) → k < length tuples → n ≤ width → unsigned_abs (sum_to (occurring codes tuples k) n) ≤ n * (value_bound * most_cells)
+pub tuple_sum_size : (bits width : ℕ) (codes : List ℕ) (tuples : List (List ℤ)) → IsGroup bits width codes tuples →
+    IsSupported bits
+    → (k n : ℕ) → k < length tuples → n ≤ width → unsigned_abs (sum_to (occurring codes tuples k) n)
+    ≤ n * (value_bound * most_cells)
 tuple_sum_size bits width codes tuples is supported k n there within =
     sum_to-size (occurring codes tuples k) (value_bound * most_cells) n
     (λ c lt. occurring_size bits width codes tuples is supported k c there (omega (arith, lt, within)))
 
-pub total_size : (bits width : ℕ) (codes : List ℕ) (tuples : List (List ℤ)) → IsGroup bits width codes tuples → IsSupported bits
-    → (n : ℕ) → n ≤ length tuples → unsigned_abs (sum_to (λ k. sum_to (occurring codes tuples k) width) n) ≤ most_cells *
+pub total_size : (bits width : ℕ) (codes : List ℕ) (tuples : List (List ℤ)) → IsGroup bits width codes tuples →
+    IsSupported bits
+    → (n : ℕ) → n ≤ length tuples → unsigned_abs (sum_to (λ k. sum_to (occurring codes tuples k) width) n)
+    ≤ most_cells *
     (value_bound * most_cells)
 total_size bits width codes tuples is supported n within =
-    let sums : unsigned_abs (sum_to (λ k. sum_to (occurring codes tuples k) width) n) ≤ n * (width * (value_bound * most_cells)) =
+    let sums : unsigned_abs (sum_to (λ k. sum_to (occurring codes tuples k) width) n)
+    ≤ n * (width * (value_bound * most_cells)) =
     sum_to-size (λ k. sum_to (occurring codes tuples k) width) (width * (value_bound * most_cells)) n
     (λ k lt. tuple_sum_size bits width codes tuples is supported k width (omega (arith, lt, within)) (omega arith)) in
-    let few : n * width ≤ most_cells = omega (arith, values_few bits width codes tuples is, mul-le-mul_right width within) in
+    let few : n * width ≤ most_cells =
+    omega (arith, values_few bits width codes tuples is, mul-le-mul_right width within) in
     omega (arith, sums, few)

@@ -59,7 +59,8 @@ counted_after n k (suc i) within after =
 -- each code is that of one row
 pub occurs_once : (n k : ℕ) → k < n → occurrences_of (range_with_len 0 n) k ≡ 1
 occurs_once n k there =
-    ap (λ (codes : List ℕ). occurrences_of codes k) (sym (take_all n (range_with_len 0 n) (omega (arith, rows_count n))))
+    ap (λ (codes : List ℕ). occurrences_of codes k)
+    (sym (take_all n (range_with_len 0 n) (omega (arith, rows_count n))))
     ∙ counted_after n k n (omega arith) there
 
 -- the row of code k is row k
@@ -82,7 +83,9 @@ counting_codes width rows values shaped = record {
 }
 
 -- the law of a group whose row i has code i
-pub plain_group : {N : Type 0} (bits : ℕ) (value : N → ℤ) → ((x : N) → InRange bits (value x)) → (width rows : ℕ) (values : List N)
+pub plain_group : {N : Type 0} (bits : ℕ) (value : N → ℤ) → ((x : N) → InRange bits (value x)) →
+    (width rows : ℕ) (values : List N)
     → IsShaped rows width values → IsGroup bits width (range_with_len 0 rows) (tuples_of width rows (map value values))
 plain_group bits value in_range width rows values shaped =
-    group_with_values bits value in_range width rows (range_with_len 0 rows) values (counting_codes width rows values shaped)
+    group_with_values bits value in_range width rows (range_with_len 0 rows) values
+    (counting_codes width rows values shaped)

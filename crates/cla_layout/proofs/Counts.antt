@@ -30,12 +30,19 @@ below_more (code ∷ codes) n =
       below_more codes n,
     )
 
-pub used_below : (codes : List ℕ) (n : ℕ) → ((k : ℕ) → k < n → 0 < occurrences_of codes k) → n ≤ count_by (λ code. ltb code n) codes
+pub used_below : (codes : List ℕ) (n : ℕ) → ((k : ℕ) → k < n → 0 < occurrences_of codes k) →
+    n ≤ count_by (λ code. ltb code n) codes
 used_below codes zero used = omega arith
 used_below codes (suc n) used =
     let next : suc n ≡ n + 1 = omega arith in
     let more = ap (λ (m : ℕ). count_by (λ code. ltb code m) codes) next in
-    omega (arith, more, used_below codes n (λ k there. used k (omega (arith, there))), used n (omega arith), below_more codes n)
+    omega (
+      arith,
+      more,
+      used_below codes n (λ k there. used k (omega (arith, there))),
+      used n (omega arith),
+      below_more codes n,
+    )
 
 -- where each tuple has a row, there are no more tuples than rows
 pub used_few : (codes : List ℕ) (n : ℕ) → ((k : ℕ) → k < n → 0 < occurrences_of codes k) → n ≤ length codes

@@ -9,7 +9,12 @@ use Rattle.cla_layout.specs.Canonical.{AreDistinct, HasKind, IsCanonical, kind_a
 use Rattle.cla_layout.proofs.TwoParts.{two_whole}
 
 abbrev outer : LayoutPart
-outer = record { columns = 0 ∷ 2 ∷ []; codes = 0 ∷ 1 ∷ 1 ∷ 0 ∷ []; tuples = (pos 1 ∷ pos 2 ∷ []) ∷ (pos 0 ∷ pos 0 ∷ []) ∷ [] }
+outer = record {
+  columns = 0 ∷ 2 ∷ [];
+  codes = 0 ∷ 1 ∷ 1 ∷ 0 ∷ [];
+  tuples = (pos 1 ∷ pos 2 ∷ []) ∷ (pos 0 ∷ pos 0 ∷ [])
+      ∷ [];
+}
 
 abbrev inner : LayoutPart
 inner = record { columns = 1 ∷ []; codes = 0 ∷ 0 ∷ 1 ∷ 1 ∷ []; tuples = (pos 7 ∷ []) ∷ (pos 0 ∷ []) ∷ [] }
@@ -17,7 +22,8 @@ inner = record { columns = 1 ∷ []; codes = 0 ∷ 0 ∷ 1 ∷ 1 ∷ []; tuples 
 abbrev both : Layout
 both = record { rows = 4; cols = 3; parts = outer ∷ inner ∷ [] }
 
-pub cells_are : (matrix_in both).cells ≡ pos 1 ∷ pos 7 ∷ pos 2 ∷ pos 0 ∷ pos 7 ∷ pos 0 ∷ pos 0 ∷ pos 0 ∷ pos 0 ∷ pos 1 ∷ pos 0 ∷ pos 2 ∷
+pub cells_are : (matrix_in both).cells ≡ pos 1 ∷ pos 7 ∷ pos 2 ∷ pos 0 ∷ pos 7 ∷ pos 0 ∷ pos 0 ∷ pos 0 ∷ pos 0 ∷ pos 1
+    ∷ pos 0 ∷ pos 2 ∷
     []
 cells_are = refl
 
@@ -75,7 +81,8 @@ numbered (suc zero) there zero before = omega arith
 numbered (suc zero) there (suc k) before = absurd (omega (arith, before))
 numbered (suc (suc q)) there k before = absurd (omega (arith, there))
 
-in_order : (q r : ℕ) → q < r → r < 2 → column_at (part_at both.parts q).columns 0 < column_at (part_at both.parts r).columns 0
+in_order : (q r : ℕ) → q < r → r < 2 → column_at (part_at both.parts q).columns 0
+    < column_at (part_at both.parts r).columns 0
 in_order zero (suc zero) before there = omega arith
 in_order q zero before there = absurd (omega (arith, before))
 in_order (suc q) (suc zero) before there = absurd (omega (arith, before))
@@ -105,7 +112,8 @@ kinds_are (suc (suc q)) there = absurd (omega (arith, there))
 -- both parts are in the form that packed files have
 pub both_is_canonical : IsCanonical 3 both (Codes ∷ Runs ∷ [])
 both_is_canonical = record {
-  whole = two_whole 3 both.parts outer.columns inner.columns outer.codes inner.codes outer.tuples inner.tuples 2 1 refl refl refl refl
+  whole = two_whole 3 both.parts outer.columns inner.columns outer.codes inner.codes outer.tuples inner.tuples 2 1 refl
+      refl refl refl
       refl refl refl outer_is_group inner_is_group;
   a_kind_each = refl;
   in_order = in_order;

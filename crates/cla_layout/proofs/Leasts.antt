@@ -12,7 +12,8 @@ IsLeast {W} F (Some first) = F first.0 first.1 × ((p : ℕ) (w : W) → F p w �
 -- of two sets
 least_either : {W : Type 0} (F G H : ℕ → W → Type 0) (first other : Option (ℕ × W)) → ((p : ℕ) (w : W) → F p w → H p w)
     → ((p : ℕ) (w : W) → G p w → H p w)
-    → ((p : ℕ) (w : W) → H p w → F p w ⊎ G p w) → IsLeast F first → IsLeast G other → IsLeast H (earlier_fault first other)
+    → ((p : ℕ) (w : W) → H p w → F p w ⊎ G p w) → IsLeast F first → IsLeast G other →
+    IsLeast H (earlier_fault first other)
 least_either F G H None None from_f from_g split none neither = λ p w at. elim (split p w at) [
   | inl f ↦ none p w f
   | inr g ↦ neither p w g
@@ -67,16 +68,19 @@ one_of : {X W : Type 0} (F : X → ℕ → W → Type 0) (d x : X) (xs : List X)
 one_of F d x xs p w (zero, there, at) = inl at
 one_of F d x xs p w (suc q, there, at) = inr (q, omega (arith, there), at)
 
-pub least_of_all : {X W : Type 0} (F : X → ℕ → W → Type 0) (d : X) (xs : List X) (firsts : List (Option (ℕ × W))) → length firsts
+pub least_of_all : {X W : Type 0} (F : X → ℕ → W → Type 0) (d : X) (xs : List X) (firsts : List (Option (ℕ × W))) →
+    length firsts
     ≡ length xs
-    → ((q : ℕ) → q < length xs → IsLeast (F (get_or xs q d)) (get_or firsts q None)) → IsLeast (OfAny F d xs) (earliest_fault firsts)
+    → ((q : ℕ) → q < length xs → IsLeast (F (get_or xs q d)) (get_or firsts q None)) →
+    IsLeast (OfAny F d xs) (earliest_fault firsts)
 least_of_all F d [] [] same each = λ p w at. absurd (omega (arith, at.1))
 least_of_all F d [] (first ∷ firsts) same each = absurd (omega (arith, same))
 least_of_all F d (x ∷ xs) [] same each = absurd (omega (arith, same))
 least_of_all F d (x ∷ xs) (first ∷ firsts) same each =
     least_either (F x) (OfAny F d xs) (OfAny F d (x ∷ xs)) first (earliest_fault firsts)
     (λ p w at. (zero, omega arith, at)) (λ p w at. (suc at.0, omega (arith, at.1), at.2)) (one_of F d x xs)
-    (each zero (omega arith)) (least_of_all F d xs firsts (omega (arith, same)) (λ q lt. each (suc q) (omega (arith, lt))))
+    (each zero (omega arith))
+    (least_of_all F d xs firsts (omega (arith, same)) (λ q lt. each (suc q) (omega (arith, lt))))
 
 -- places with nothing to say
 abbrev pub alone : Option ℕ → Option (ℕ × Unit {0})
@@ -97,13 +101,15 @@ all_alone (first ∷ firsts) = alone first ∷ all_alone firsts
 
 pub least_alone : (firsts : List (Option ℕ)) → earliest_fault (all_alone firsts) ≡ alone (least_of firsts)
 least_alone [] = refl
-least_alone (first ∷ firsts) = ap (earlier_fault (alone first)) (least_alone firsts) ∙ lesser_alone first (least_of firsts)
+least_alone (first ∷ firsts) = ap (earlier_fault (alone first)) (least_alone firsts)
+    ∙ lesser_alone first (least_of firsts)
 
 pub length-all_alone : (firsts : List (Option ℕ)) → length (all_alone firsts) ≡ length firsts
 length-all_alone [] = refl
 length-all_alone (first ∷ firsts) = omega (arith, length-all_alone firsts)
 
-pub get_or-all_alone : (firsts : List (Option ℕ)) (q : ℕ) → get_or (all_alone firsts) q None ≡ alone (get_or firsts q None)
+pub get_or-all_alone : (firsts : List (Option ℕ)) (q : ℕ) → get_or (all_alone firsts) q None
+    ≡ alone (get_or firsts q None)
 get_or-all_alone [] q = refl
 get_or-all_alone (first ∷ firsts) zero = refl
 get_or-all_alone (first ∷ firsts) (suc q) = get_or-all_alone firsts q

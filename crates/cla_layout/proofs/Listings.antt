@@ -13,7 +13,8 @@ use Rattle.cla_layout.specs.Groups.{code_of, occurrences_of}
 use Rattle.cla_layout.specs.Listed.{rows_where, rows_of}
 
 -- one more row
-pub rows_where_more : (test : ℕ → Bool) (n : ℕ) → rows_where test (n + 1) ≡ rows_where test n ++ cond (test n) (n ∷ []) []
+pub rows_where_more : (test : ℕ → Bool) (n : ℕ) → rows_where test (n + 1) ≡ rows_where test n
+    ++ cond (test n) (n ∷ []) []
 rows_where_more test n =
     ap (filter test) (sym (map-id (range_with_len 0 (n + 1))))
     ∙ filter_of_map_range_with_len_more test (λ i. i) 0 n n (omega arith)
@@ -24,7 +25,8 @@ rows_where_yes test n holds = rows_where_more test n ∙ ap (λ (b : Bool). rows
 
 pub rows_where_no : (test : ℕ → Bool) (n : ℕ) → test n ≡ false → rows_where test (n + 1) ≡ rows_where test n
 rows_where_no test n fails =
-    rows_where_more test n ∙ ap (λ (b : Bool). rows_where test n ++ cond b (n ∷ []) []) fails ∙ append-nil (rows_where test n)
+    rows_where_more test n ∙ ap (λ (b : Bool). rows_where test n ++ cond b (n ∷ []) []) fails
+    ∙ append-nil (rows_where test n)
 
 -- rows that pass a test, in rising order and below n
 pub record AreRowsWhere (test : ℕ → Bool) (n : ℕ) (rows : List ℕ) : Type 0 where
@@ -101,7 +103,8 @@ rows_where_from test a (suc m) =
     let next : a + suc m ≡ (a + m) + 1 = omega arith in
     let next_later : suc m ≡ m + 1 = omega arith in
     let last = cond (test (a + m)) (m ∷ []) [] in
-    let moved : map move (rows_where later (suc m)) ≡ map move (rows_where later m) ++ cond (test (a + m)) ((a + m) ∷ []) [] =
+    let moved : map move (rows_where later (suc m)) ≡ map move (rows_where later m)
+    ++ cond (test (a + m)) ((a + m) ∷ []) [] =
     ap (λ (k : ℕ). map move (rows_where later k)) next_later ∙ ap (map move) (rows_where_more later m)
     ∙ map-append move (rows_where later m) last
     ∙ ap (λ (xs : List ℕ). map move (rows_where later m) ++ xs) (mapped_if move (test (a + m)) m) in
@@ -116,8 +119,12 @@ rows_where_few test zero = omega arith
 rows_where_few test (suc n) =
     let next : n + 1 ≡ suc n = omega arith in
     subst (λ (m : ℕ). length (rows_where test m) ≤ m) next (elim (cases_Bool (test n)) [
-      | inl holds ↦ omega
-          (arith, ap (λ (xs : List ℕ). length xs) (rows_where_yes test n holds), length_push (rows_where test n) n, rows_where_few test n)
+      | inl holds ↦ omega (
+        arith,
+        ap (λ (xs : List ℕ). length xs) (rows_where_yes test n holds),
+        length_push (rows_where test n) n,
+        rows_where_few test n,
+      )
       | inr fails ↦ omega (arith, ap (λ (xs : List ℕ). length xs) (rows_where_no test n fails), rows_where_few test n)
     ])
 
@@ -130,24 +137,30 @@ rows_where_none test (suc n) fails =
 
 -- a row that passes stands behind those before it that pass
 pub row_place : (test : ℕ → Bool) (n i : ℕ) → i < n → test i ≡ true
-    → (length (rows_where test i) < length (rows_where test n)) × (code_of (rows_where test n) (length (rows_where test i)) ≡ i)
+    → (length (rows_where test i) < length (rows_where test n))
+    × (code_of (rows_where test n) (length (rows_where test i)) ≡ i)
 row_place test zero i row holds = absurd (omega (arith, row))
 row_place test (suc n) i row holds =
     let next : n + 1 ≡ suc n = omega arith in
-    let Is = λ (xs : List ℕ). (length (rows_where test i) < length xs) × (code_of xs (length (rows_where test i)) ≡ i) in
+    let Is = λ (xs : List ℕ). (length (rows_where test i) < length xs)
+    × (code_of xs (length (rows_where test i)) ≡ i) in
     subst (λ (m : ℕ). Is (rows_where test m)) next (elim (cases_eq i n) [
       | inl same ↦
           let here : test n ≡ true = ap test (sym same) ∙ holds in
           let rows = rows_where test n in
           let count : length (rows_where test i) ≡ length rows = ap (λ (j : ℕ). length (rows_where test j)) same in
-          subst Is (sym (rows_where_yes test n here))
-          (omega (arith, count, length_push rows n), get_or_push rows n 0 (length (rows_where test i)) (sym count) ∙ sym same)
+          subst Is (sym (rows_where_yes test n here)) (
+            omega (arith, count, length_push rows n),
+            get_or_push rows n 0 (length (rows_where test i)) (sym count)
+                ∙ sym same,
+          )
       | inr other ↦
           let before : i < n = omega (arith, row, other) in
           let rows = rows_where test n in
           let place = row_place test n i before holds in
           let more = get_or_append_left rows (cond (test n) (n ∷ []) []) 0 (length (rows_where test i)) place.0 in
-          subst Is (sym (rows_where_more test n)) (omega (arith, place.0, length-append rows (cond (test n) (n ∷ []) [])), more ∙ place.1)
+          subst Is (sym (rows_where_more test n))
+          (omega (arith, place.0, length-append rows (cond (test n) (n ∷ []) [])), more ∙ place.1)
     ])
 
 -- a row is listed exactly where it passes
@@ -160,11 +173,13 @@ pub row_listed : (test : ℕ → Bool) (n i : ℕ) → i < n → list_any (λ ro
 row_listed test n i row = elim (cases_Bool (test i)) [
   | inl holds ↦
       let place = row_place test n i row holds in
-      list_any_at (λ r. eqb r i) (rows_where test n) (length (rows_where test i)) 0 place.0 (eq-eqb _ _ place.1) ∙ sym holds
+      list_any_at (λ r. eqb r i) (rows_where test n) (length (rows_where test i)) 0 place.0 (eq-eqb _ _ place.1)
+      ∙ sym holds
   | inr fails ↦
       let are = are_rows_where test n in
       no_item (λ r. eqb r i) (rows_where test n)
-      (λ a there. ne_eqb (code_of (rows_where test n) a) i (λ same. both_ways (test i) fails (ap test (sym same) ∙ are.passes a there)))
+      (λ a there. ne_eqb (code_of (rows_where test n) a) i (λ same. both_ways (test i) fails (ap test (sym same)
+      ∙ are.passes a there)))
       ∙ sym fails
 ]
 
@@ -176,10 +191,12 @@ rows_count_to codes k (suc n) within =
     let next : n + 1 ≡ suc n = omega arith in
     let test = λ (i : ℕ). eqb (code_of codes i) k in
     let so_far = rows_count_to codes k n (omega (arith, within)) in
-    subst (λ (m : ℕ). length (rows_where (λ i. eqb (code_of codes i) k) m) ≡ count_by (λ code. eqb code k) (take m codes)) next
+    subst (λ (m : ℕ). length (rows_where (λ i. eqb (code_of codes i) k) m)
+    ≡ count_by (λ code. eqb code k) (take m codes)) next
     (elim (cases_Bool (eqb (code_of codes n) k)) [
       | inl holds ↦
-          ap (λ (xs : List ℕ). length xs) (rows_where_yes test n holds) ∙ length_push (rows_where test n) n ∙ ap (λ (m : ℕ). m + 1) so_far
+          ap (λ (xs : List ℕ). length xs) (rows_where_yes test n holds) ∙ length_push (rows_where test n) n
+          ∙ ap (λ (m : ℕ). m + 1) so_far
           ∙ sym (count_by_more_yes (λ code. eqb code k) codes n 0 (omega (arith, within)) holds)
       | inr fails ↦
           ap (λ (xs : List ℕ). length xs) (rows_where_no test n fails) ∙ so_far
@@ -202,10 +219,12 @@ sum_over_push f rows i =
     let longer : length more ≡ suc n = omega (arith, length_push rows i) in
     ap (sum_to (λ a. f (code_of more a))) longer
     ∙ ap (λ (z : ℤ). z +ℤ f (code_of more n))
-    (sum_to-same (λ a. f (code_of more a)) (λ a. f (code_of rows a)) n (λ a there. ap f (get_or_append_left rows (i ∷ []) 0 a there)))
+    (sum_to-same (λ a. f (code_of more a)) (λ a. f (code_of rows a)) n
+    (λ a there. ap f (get_or_append_left rows (i ∷ []) 0 a there)))
     ∙ ap (λ (j : ℕ). sum_over f rows +ℤ f j) (get_or_push rows i 0 n refl)
 
-pub sum_where : (f : ℕ → ℤ) (test : ℕ → Bool) (n : ℕ) → sum_over f (rows_where test n) ≡ sum_to (λ i. cond (test i) (f i) (pos 0)) n
+pub sum_where : (f : ℕ → ℤ) (test : ℕ → Bool) (n : ℕ) → sum_over f (rows_where test n)
+    ≡ sum_to (λ i. cond (test i) (f i) (pos 0)) n
 sum_where f test zero = refl
 sum_where f test (suc n) =
     let next : suc n ≡ n + 1 = omega arith in
@@ -216,6 +235,7 @@ sum_where f test (suc n) =
           ∙ ap (λ (z : ℤ). z +ℤ f n) so_far
           ∙ ap (λ (b : Bool). sum_to (λ i. cond (test i) (f i) (pos 0)) n +ℤ cond b (f n) (pos 0)) (sym holds)
       | inr fails ↦
-          ap (sum_over f) (rows_where_no test n fails) ∙ so_far ∙ plus_zero (sum_to (λ i. cond (test i) (f i) (pos 0)) n)
+          ap (sum_over f) (rows_where_no test n fails) ∙ so_far
+          ∙ plus_zero (sum_to (λ i. cond (test i) (f i) (pos 0)) n)
           ∙ ap (λ (b : Bool). sum_to (λ i. cond (test i) (f i) (pos 0)) n +ℤ cond b (f n) (pos 0)) (sym fails)
     ]

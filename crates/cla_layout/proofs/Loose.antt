@@ -15,7 +15,8 @@ use Rattle.cla_layout.specs.Layouts.{IsWhole, IsPart, index_of, part_at, entry_i
 use Rattle.cla_layout.proofs.Matrices.{same_matrix}
 
 -- the first columns rise
-pub first_rise : (n c d : ℕ) → c < d → d < length (range_with_len 0 n) → code_of (range_with_len 0 n) c < code_of (range_with_len 0 n) d
+pub first_rise : (n c d : ℕ) → c < d → d < length (range_with_len 0 n) → code_of (range_with_len 0 n) c
+    < code_of (range_with_len 0 n) d
 first_rise n c d before there =
     let d_there : d < n = rw (rows_count n) at there in
     rw (code_is n c (omega (arith, before, d_there)), code_is n d d_there) before
@@ -30,7 +31,8 @@ past_columns n j past = elim (cases_lt 0 (occurrences_of (range_with_len 0 n) j)
   | inr none ↦ omega (arith, none)
 ]
 
-one_part : {N : Type 0} (bits : ℕ) (value : N → ℤ) → ((x : N) → InRange bits (value x)) → (m : Matrix) (cells : List N) → map value cells
+one_part : {N : Type 0} (bits : ℕ) (value : N → ℤ) → ((x : N) → InRange bits (value x)) → (m : Matrix) (cells : List N)
+    → map value cells
     ≡ m.cells → IsShaped m.rows m.cols cells
     → (q : ℕ) → q < length (loose_layout m).parts → IsPart bits m.rows (part_at (loose_layout m).parts q)
 one_part bits value in_range m cells same shaped zero there = record {
@@ -41,7 +43,8 @@ one_part bits value in_range m cells same shaped zero there = record {
 one_part bits value in_range m cells same shaped (suc q) there = absurd (omega (arith, there))
 
 -- a matrix as one part is a whole layout
-pub loose_whole : {N : Type 0} (bits : ℕ) (value : N → ℤ) → ((x : N) → InRange bits (value x)) → (m : Matrix) (cells : List N)
+pub loose_whole : {N : Type 0} (bits : ℕ) (value : N → ℤ) → ((x : N) → InRange bits (value x)) →
+    (m : Matrix) (cells : List N)
     → map value cells ≡ m.cells → IsShaped m.rows m.cols cells → IsWhole bits (loose_layout m)
 loose_whole bits value in_range m cells same shaped =
     let listed : range_with_len 0 m.cols ++ [] ≡ range_with_len 0 m.cols = append-nil (range_with_len 0 m.cols) in
@@ -49,7 +52,12 @@ loose_whole bits value in_range m cells same shaped =
       a_row = shaped.a_row;
       a_col = shaped.a_col;
       few = shaped.few;
-      partition = rw listed (record { once = λ j there. occurs_once m.cols j there; no_other = λ j past. past_columns m.cols j past });
+      partition =
+          rw listed (record {
+            once = λ j there. occurs_once m.cols j there;
+            no_other =
+                λ j past. past_columns m.cols j past;
+          });
       each = one_part bits value in_range m cells same shaped;
     }
 

@@ -55,10 +55,12 @@ same_matrix m f shaped same =
     ∙ sym (row_by_row-at m.rows m.cols f p (pos 0) there)))
 
 -- the place of a listed column
-pub column_there : (columns : List ℕ) (j : ℕ) → first_row_of columns j < length columns → code_of columns (first_row_of columns j) ≡ j
+pub column_there : (columns : List ℕ) (j : ℕ) → first_row_of columns j < length columns →
+    code_of columns (first_row_of columns j) ≡ j
 column_there columns j there = eqb-true _ _ (passes_at_first (λ code. eqb code j) columns 0 there)
 
-pub one_matrix : (bits : ℕ) (layout : Layout) (m : Matrix) → IsWhole bits layout → IsShaped m.rows m.cols m.cells → StandsFor layout m → m
+pub one_matrix : (bits : ℕ) (layout : Layout) (m : Matrix) → IsWhole bits layout → IsShaped m.rows m.cols m.cells →
+    StandsFor layout m → m
     ≡ matrix_in layout
 one_matrix bits layout m whole shaped standing =
     let cells = same_matrix m (entry_in layout.parts) shaped (λ i j row col.
@@ -71,7 +73,8 @@ one_matrix bits layout m whole shaped standing =
     ∙ sym (entry_of_part layout.cols layout.parts found.0 i j whole.partition found.1 col_there found.2))) in
     ap (λ (r : ℕ). record { rows = r; cols = m.cols; cells = m.cells }) standing.rows
     ∙ ap (λ (c : ℕ). record { rows = layout.rows; cols = c; cells = m.cells }) standing.cols
-    ∙ ap (λ (cs : List ℤ). record { rows = layout.rows; cols = layout.cols; cells = cs }) (rw (standing.rows, standing.cols) at cells)
+    ∙ ap (λ (cs : List ℤ). record { rows = layout.rows; cols = layout.cols; cells = cs })
+    (rw (standing.rows, standing.cols) at cells)
 
 pub transposed_twice : (m : Matrix) → IsShaped m.rows m.cols m.cells → transposed (transposed m) ≡ m
 transposed_twice m shaped =
@@ -90,7 +93,8 @@ well_made bits layout whole = record {
     few = whole.few;
   };
   in_range = All-from_get_or (InRange bits) (matrix_in layout).cells (pos 0) (λ p lt.
-      (let there : p < layout.rows * layout.cols = rw (row_by_row-count layout.rows layout.cols (entry_in layout.parts)) at lt in
+      (let there : p < layout.rows * layout.cols = rw (row_by_row-count layout.rows layout.cols (entry_in layout.parts))
+      at lt in
       rw (row_by_row-at layout.rows layout.cols (entry_in layout.parts) p (pos 0) there)
       (entry_small bits layout (p / layout.cols) (p % layout.cols) whole ((div-lt_iff_lt-mul whole.a_col).1 there)
       (omega (arith, whole.a_col)))));

@@ -15,14 +15,16 @@ use Rattle.cla_layout.proofs.Matrices.{column_there}
 abbrev IsAt : {W : Type 0} → ℕ → ℕ → (ℕ → ℕ → W → ℕ) → (ℕ → ℕ → W → Type 0) → ℕ → W → Type 0
 IsAt rows cols place Is p w = (i : ℕ) × (j : ℕ) × (i < rows) × (j < cols) × (place i j w ≡ p) × Is i j w
 
-least_place : (rows cols : ℕ) (place : ℕ → ℕ → ℕ) (Fails : ℕ → ℕ → Type 0) (first : Option ℕ) → IsFirstOf rows cols place Fails first
+least_place : (rows cols : ℕ) (place : ℕ → ℕ → ℕ) (Fails : ℕ → ℕ → Type 0) (first : Option ℕ) →
+    IsFirstOf rows cols place Fails first
     → IsLeast (IsAt rows cols (λ i j w. place i j) (λ i j w. Fails i j)) (alone first)
 least_place rows cols place Fails None none = λ p w at. none at.0 at.1 at.2 at.3 at.5
 least_place rows cols place Fails (Some p) is =
     (is.reached, λ q w at. (let le = is.least at.0 at.1 at.2 at.3 at.5 in omega (arith, le, at.4)))
 
 first_place : (rows cols : ℕ) (place : ℕ → ℕ → ℕ) (Fails : ℕ → ℕ → Type 0) (first : Option ℕ)
-    → IsLeast (IsAt rows cols (λ i j w. place i j) (λ i j w. Fails i j)) (alone first) → IsFirstOf rows cols place Fails first
+    → IsLeast (IsAt rows cols (λ i j w. place i j) (λ i j w. Fails i j)) (alone first) →
+    IsFirstOf rows cols place Fails first
 first_place rows cols place Fails None none = λ i j row col fails. none (place i j) tt (i, j, row, col, refl, fails)
 first_place rows cols place Fails (Some p) least = record {
   reached = least.0;
@@ -61,7 +63,8 @@ first_transposed rows cols place Fails (Some p) is = record {
   least = λ j i col row fails. is.least i j row col fails;
 }
 
-pub fault_transposed : {W : Type 0} (rows cols : ℕ) (place : ℕ → ℕ → W → ℕ) (fault : ℕ → ℕ → Option W) (first : Option (ℕ × W))
+pub fault_transposed : {W : Type 0} (rows cols : ℕ) (place : ℕ → ℕ → W → ℕ) (fault : ℕ → ℕ → Option W)
+    (first : Option (ℕ × W))
     → IsFirstFault rows cols place fault first → IsFirstFault cols rows (λ j i. place i j) (λ j i. fault i j) first
 fault_transposed rows cols place fault None none = λ j i col row. none i j row col
 fault_transposed rows cols place fault (Some first) is = record {
@@ -72,8 +75,10 @@ fault_transposed rows cols place fault (Some first) is = record {
 -- the cell of a tuple's value: in the tuple's first row
 pub cell_of_value : (bits : ℕ) (layout : Layout) (q k c : ℕ) → IsWhole bits layout → q < length layout.parts
     → k < length (part_at layout.parts q).tuples → c < length (part_at layout.parts q).columns
-    → (first_row_of (part_at layout.parts q).codes k < layout.rows) × (column_at (part_at layout.parts q).columns c < layout.cols)
-    × (entry_in layout.parts (first_row_of (part_at layout.parts q).codes k) (column_at (part_at layout.parts q).columns c)
+    → (first_row_of (part_at layout.parts q).codes k < layout.rows)
+    × (column_at (part_at layout.parts q).columns c < layout.cols)
+    × (entry_in layout.parts (first_row_of (part_at layout.parts q).codes k)
+    (column_at (part_at layout.parts q).columns c)
     ≡ value_of (part_at layout.parts q).tuples k c)
 cell_of_value bits layout q k c whole there tuple place =
     let part = part_at layout.parts q in
@@ -86,7 +91,8 @@ cell_of_value bits layout q k c whole there tuple place =
     let col : j < layout.cols = own_column_within layout.cols layout.parts q j whole.partition there own.1 in (
       row,
       col,
-      entry_of_part layout.cols layout.parts q i j whole.partition there col own.1 ∙ ap (cell_of part.codes part.tuples i) own.0
+      entry_of_part layout.cols layout.parts q i j whole.partition there col own.1
+          ∙ ap (cell_of part.codes part.tuples i) own.0
           ∙ ap (λ (t : ℕ). value_of part.tuples t c) (code_of_first_row part.codes k used),
     )
 
@@ -99,7 +105,8 @@ pub record IsValueOf (layout : Layout) (i j q k c : ℕ) : Type 0 where
   pub entry : entry_in layout.parts i j ≡ value_of (part_at layout.parts q).tuples k c
   pub first : first_row_of (part_at layout.parts q).codes k ≤ i
 
-pub value_of_cell : (bits : ℕ) (layout : Layout) (i j : ℕ) → IsWhole bits layout → i < layout.rows → j < layout.cols → (q : ℕ) × (k : ℕ)
+pub value_of_cell : (bits : ℕ) (layout : Layout) (i j : ℕ) → IsWhole bits layout → i < layout.rows → j < layout.cols →
+    (q : ℕ) × (k : ℕ)
     × (c : ℕ) × IsValueOf layout i j q k c
 value_of_cell bits layout i j whole row col =
     let found = some_part layout.cols layout.parts j whole.partition col in
@@ -123,7 +130,8 @@ value_of_cell bits layout i j whole row col =
 -- what is so of the values of a part: each at the place of its tuple's first row and its column
 abbrev IsInPart : {W : Type 0} → (ℕ → ℕ → W → ℕ) → (ℕ → ℤ → W → Type 0) → LayoutPart → ℕ → W → Type 0
 IsInPart place Is part =
-    IsAt (length part.tuples) (length part.columns) (λ k c w. place (first_row_of part.codes k) (column_at part.columns c) w)
+    IsAt (length part.tuples) (length part.columns)
+    (λ k c w. place (first_row_of part.codes k) (column_at part.columns c) w)
     (λ k c w. Is (column_at part.columns c) (value_of part.tuples k c) w)
 
 -- the least place of the values of all parts is that of the cells
@@ -134,7 +142,8 @@ least_by_parts : {W : Type 0} (bits : ℕ) (layout : Layout) (place : ℕ → �
     → IsLeast (IsAt layout.rows layout.cols place (λ i j w. Is j (entry_in layout.parts i j) w)) (earliest_fault firsts)
 least_by_parts {W} bits layout place Is firsts whole rises same each =
     let parts = layout.parts in
-    least_same (OfAny (IsInPart place Is) no_part parts) (IsAt layout.rows layout.cols place (λ i j w. Is j (entry_in parts i j) w))
+    least_same (OfAny (IsInPart place Is) no_part parts)
+    (IsAt layout.rows layout.cols place (λ i j w. Is j (entry_in parts i j) w))
     (earliest_fault firsts)
     (λ p w at.
     (let q = at.0 in
@@ -152,7 +161,8 @@ least_by_parts {W} bits layout place Is firsts whole rises same each =
     let k = value.1 in
     let c = value.2 in
     let is = value.3 in
-    let here : Is (column_at part.columns c) (value_of part.tuples k c) w = rw is.column (subst (λ (z : ℤ). Is j z w) is.entry at.5) in
+    let here : Is (column_at part.columns c) (value_of part.tuples k c) w =
+    rw is.column (subst (λ (z : ℤ). Is j z w) is.entry at.5) in
     let earlier : place (first_row_of part.codes k) (column_at part.columns c) w ≤ place i j w =
     rw is.column (rises (first_row_of part.codes k) i j w is.first) in (
       place (first_row_of part.codes k) (column_at part.columns c) w,
@@ -163,19 +173,22 @@ least_by_parts {W} bits layout place Is firsts whole rises same each =
     (least_of_all (IsInPart place Is) no_part parts firsts same each)
 
 -- the first cell that fails is the least of the first places of the parts
-pub first_by_parts : (bits : ℕ) (layout : Layout) (place : ℕ → ℕ → ℕ) (Fails : ℕ → ℤ → Type 0) (firsts : List (Option ℕ))
+pub first_by_parts : (bits : ℕ) (layout : Layout) (place : ℕ → ℕ → ℕ) (Fails : ℕ → ℤ → Type 0)
+    (firsts : List (Option ℕ))
     → IsWhole bits layout → ((i r j : ℕ) → i ≤ r → place i j ≤ place r j)
     → length firsts ≡ length layout.parts
     → ((q : ℕ) → q < length layout.parts →
     IsFirstOf (length (part_at layout.parts q).tuples) (length (part_at layout.parts q).columns)
     (first_cell place (part_at layout.parts q))
-    (λ k c. Fails (column_at (part_at layout.parts q).columns c) (value_of (part_at layout.parts q).tuples k c)) (get_or firsts q None))
+    (λ k c. Fails (column_at (part_at layout.parts q).columns c) (value_of (part_at layout.parts q).tuples k c))
+    (get_or firsts q None))
     → IsFirstOf layout.rows layout.cols place (λ i j. Fails j (entry_in layout.parts i j)) (least_of firsts)
 first_by_parts bits layout place Fails firsts whole rises same each =
     first_place layout.rows layout.cols place (λ i j. Fails j (entry_in layout.parts i j)) (least_of firsts)
     (subst (IsLeast (IsAt layout.rows layout.cols (λ i j w. place i j) (λ i j w. Fails j (entry_in layout.parts i j))))
     (least_alone firsts)
-    (least_by_parts bits layout (λ i j w. place i j) (λ j z w. Fails j z) (all_alone firsts) whole (λ i r j w le. rises i r j le)
+    (least_by_parts bits layout (λ i j w. place i j) (λ j z w. Fails j z) (all_alone firsts) whole
+    (λ i r j w le. rises i r j le)
     (length-all_alone firsts ∙ same)
     (λ q there. (let part = part_at layout.parts q in
     subst (IsLeast (IsInPart (λ i j w. place i j) (λ j z w. Fails j z) part)) (sym (get_or-all_alone firsts q))
@@ -186,19 +199,23 @@ first_by_parts bits layout place Fails firsts whole rises same each =
 pub fault_by_parts : {W : Type 0} (bits : ℕ) (layout : Layout) (place : ℕ → ℕ → W → ℕ) (fault : ℕ → ℤ → Option W)
     (firsts : List (Option (ℕ × W))) → IsWhole bits layout
     → ((i r j : ℕ) (w : W) → i ≤ r → place i j w ≤ place r j w) → length firsts ≡ length layout.parts
-    → ((q : ℕ) → q < length layout.parts → IsFirstFaultOfPart place fault (part_at layout.parts q) (get_or firsts q None))
+    → ((q : ℕ) → q < length layout.parts →
+    IsFirstFaultOfPart place fault (part_at layout.parts q) (get_or firsts q None))
     → IsFirstFault layout.rows layout.cols place (λ i j. fault j (entry_in layout.parts i j)) (earliest_fault firsts)
 fault_by_parts bits layout place fault firsts whole rises same each =
     first_fault layout.rows layout.cols place (λ i j. fault j (entry_in layout.parts i j)) (earliest_fault firsts)
     (least_by_parts bits layout place (λ j z w. fault j z ≡ Some w) firsts whole rises same
     (λ q there. (let part = part_at layout.parts q in
-    least_fault (length part.tuples) (length part.columns) (λ k c w. place (first_row_of part.codes k) (column_at part.columns c) w)
+    least_fault (length part.tuples) (length part.columns)
+    (λ k c w. place (first_row_of part.codes k) (column_at part.columns c) w)
     (λ k c. fault (column_at part.columns c) (value_of part.tuples k c))
     (get_or firsts q None) (each q there))))
 
 -- the least or the greatest entry is that of the tuples of all parts
-pub extreme_by_parts : (bits : ℕ) (layout : Layout) (Before : ℤ → ℤ → Type 0) (f : ℕ → ℤ → ℤ) (v : ℤ) → IsWhole bits layout
-    → IsExtremeEntry Before layout.rows layout.cols (λ i j. f j (entry_in layout.parts i j)) v ↔ IsExtremeOfParts Before f layout.parts v
+pub extreme_by_parts : (bits : ℕ) (layout : Layout) (Before : ℤ → ℤ → Type 0) (f : ℕ → ℤ → ℤ) (v : ℤ) →
+    IsWhole bits layout
+    → IsExtremeEntry Before layout.rows layout.cols (λ i j. f j (entry_in layout.parts i j)) v ↔ IsExtremeOfParts Before
+    f layout.parts v
 extreme_by_parts bits layout Before f v whole = (
   λ cells.
       (let i = cells.reached.0 in
@@ -207,13 +224,15 @@ extreme_by_parts bits layout Before f v whole = (
       let part = part_at layout.parts value.0 in
       let is = value.3 in
       let reached : f (column_at part.columns value.2) (value_of part.tuples value.1 value.2)
-      ≡ v = ap (λ (c : ℕ). f c (value_of part.tuples value.1 value.2)) is.column ∙ ap (f j) (sym is.entry) ∙ cells.reached.4 in
+      ≡ v = ap (λ (c : ℕ). f c (value_of part.tuples value.1 value.2)) is.column ∙ ap (f j) (sym is.entry)
+      ∙ cells.reached.4 in
       record {
         reached = (value.0, is.there, (value.1, value.2, is.tuple, is.place, reached));
         before = λ q k c there tuple place.
             (let j = column_at (part_at layout.parts q).columns c in
             let cell = cell_of_value bits layout q k c whole there tuple place in
-            subst (λ (z : ℤ). Before v (f j z)) cell.2 (cells.before (first_row_of (part_at layout.parts q).codes k) j cell.0 cell.1));
+            subst (λ (z : ℤ). Before v (f j z)) cell.2 (cells.before (first_row_of (part_at layout.parts q).codes k) j
+            cell.0 cell.1));
       }),
   λ values.
       (let q = values.reached.0 in
@@ -231,7 +250,8 @@ extreme_by_parts bits layout Before f v whole = (
       }),
 )
 
-pub extreme_transposed : (Before : ℤ → ℤ → Type 0) (rows cols : ℕ) (entry : ℕ → ℕ → ℤ) (v : ℤ) → IsExtremeEntry Before rows cols entry v
+pub extreme_transposed : (Before : ℤ → ℤ → Type 0) (rows cols : ℕ) (entry : ℕ → ℕ → ℤ) (v : ℤ) →
+    IsExtremeEntry Before rows cols entry v
     → IsExtremeEntry Before cols rows (λ j i. entry i j) v
 extreme_transposed Before rows cols entry v is = record {
   reached = (is.reached.1, is.reached.0, is.reached.3, is.reached.2, is.reached.4);

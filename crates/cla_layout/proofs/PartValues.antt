@@ -40,7 +40,8 @@ values_in part = length part.tuples * length part.columns
 
 widths : (parts : List LayoutPart) → sum_by width_of parts ≡ length (all_columns parts)
 widths [] = refl
-widths (part ∷ parts) = omega (arith, sum_by-cons width_of part parts, widths parts, length-append part.columns (all_columns parts))
+widths (part ∷ parts) =
+    omega (arith, sum_by-cons width_of part parts, widths parts, length-append part.columns (all_columns parts))
 
 -- one more part
 pub values_more : (parts : List LayoutPart) (q : ℕ) → q < length parts → values_of (take (q + 1) parts)
@@ -58,7 +59,8 @@ values_more (part ∷ parts) (suc q) there =
           (omega (arith, there)),
     )
 
-values_wide : (rows : ℕ) (parts : List LayoutPart) (q : ℕ) → ((p : ℕ) → p < length parts → length (part_at parts p).tuples ≤ rows)
+values_wide : (rows : ℕ) (parts : List LayoutPart) (q : ℕ) →
+    ((p : ℕ) → p < length parts → length (part_at parts p).tuples ≤ rows)
     → values_of (take q parts) ≤ rows * sum_by width_of parts
 values_wide rows [] zero few = omega arith
 values_wide rows [] (suc q) few = omega arith
@@ -67,7 +69,8 @@ values_wide rows (part ∷ parts) (suc q) few =
     let more : values_of (take (suc q) (part ∷ parts))
     ≡ values_in part + values_of (take q parts) = sum_by-cons values_in part (take q parts) in
     let wider : rows * sum_by width_of (part ∷ parts)
-    ≡ rows * (length part.columns + sum_by width_of parts) = ap (λ (n : ℕ). rows * n) (sum_by-cons width_of part parts) in
+    ≡ rows * (length part.columns + sum_by width_of parts) =
+    ap (λ (n : ℕ). rows * n) (sum_by-cons width_of part parts) in
     omega (
       arith,
       more,
@@ -78,14 +81,16 @@ values_wide rows (part ∷ parts) (suc q) few =
     )
 
 -- there are no more of them than cells
-pub values_few : (bits : ℕ) (layout : Layout) (q : ℕ) → IsWhole bits layout → values_of (take q layout.parts) ≤ layout.rows * layout.cols
+pub values_few : (bits : ℕ) (layout : Layout) (q : ℕ) → IsWhole bits layout → values_of (take q layout.parts)
+    ≤ layout.rows * layout.cols
 values_few bits layout q whole =
     let wide : sum_by width_of layout.parts ≡ layout.cols = widths layout.parts
     ∙ columns_count layout.cols (all_columns layout.parts) whole.partition in
     let all : values_of (take q layout.parts) ≤ layout.rows * sum_by width_of layout.parts =
     values_wide layout.rows layout.parts q (λ p lt.
     (let is = whole.each p lt in omega (arith, tuples_few _ _ _ _ is.group, is.a_code_each))) in
-    let same : layout.rows * sum_by width_of layout.parts ≡ layout.rows * layout.cols = ap (λ (n : ℕ). layout.rows * n) wide in
+    let same : layout.rows * sum_by width_of layout.parts ≡ layout.rows * layout.cols =
+    ap (λ (n : ℕ). layout.rows * n) wide in
     omega (arith, all, same)
 
 either_zero : (b : Bool) → cond b (pos 0) (pos 0) ≡ pos 0
@@ -102,7 +107,8 @@ one_first : (n : ℕ) (codes : List ℕ) (k i : ℕ) → AreCodesOf n codes → 
     ≡ cond (eqb (first_row_of codes k) i) (pos 1) (pos 0)
 one_first n codes k i are there = elim (cases_Bool (eqb (first_row_of codes k) i)) [
   | inl here ↦
-      let code : code_of codes i ≡ k = ap (code_of codes) (sym (eqb-true _ _ here)) ∙ code_of_first_row codes k (are.used k there) in
+      let code : code_of codes i ≡ k = ap (code_of codes) (sym (eqb-true _ _ here))
+      ∙ code_of_first_row codes k (are.used k there) in
       rw (here, eq-eqb (code_of codes i) k code) refl
   | inr elsewhere ↦ rw elsewhere (either_zero (eqb (code_of codes i) k))
 ]

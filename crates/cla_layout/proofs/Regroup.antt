@@ -20,7 +20,8 @@ codes_of_group bits width codes tuples is = record { in_tuples = is.in_tuples; u
 
 -- the sum over the first n rows of a value of the row and its tuple, tuple by tuple
 pub regroup_any : (f : ℕ → ℕ → ℤ) (codes : List ℕ) (m n : ℕ) → ((i : ℕ) → i < n → code_of codes i < m)
-    → sum_to (λ i. f i (code_of codes i)) n ≡ sum_to (λ k. sum_to (λ i. cond (eqb (code_of codes i) k) (f i k) (pos 0)) n) m
+    → sum_to (λ i. f i (code_of codes i)) n
+    ≡ sum_to (λ k. sum_to (λ i. cond (eqb (code_of codes i) k) (f i k) (pos 0)) n) m
 regroup_any f codes m n below =
     sum_to-same (λ i. f i (code_of codes i)) (λ i. sum_to (λ k. cond (eqb (code_of codes i) k) (f i k) (pos 0)) m) n
     (λ i lt. sym (sum_to-pick (f i) (code_of codes i) m (below i lt)))
@@ -31,7 +32,8 @@ chosen true x z = refl
 chosen false x z = sym (zero-*ℤ z)
 
 -- the same where the value is a weight of the row times a value of the tuple
-pub regroup_weighted : (f : ℕ → ℤ) (codes : List ℕ) (weights : List ℤ) (m n : ℕ) → ((i : ℕ) → i < n → code_of codes i < m)
+pub regroup_weighted : (f : ℕ → ℤ) (codes : List ℕ) (weights : List ℤ) (m n : ℕ) →
+    ((i : ℕ) → i < n → code_of codes i < m)
     → sum_to (λ i. at weights i *ℤ f (code_of codes i)) n ≡ sum_to (λ k. gathered_to codes weights k n *ℤ f k) m
 regroup_weighted f codes weights m n below =
     regroup_any (λ i k. at weights i *ℤ f k) codes m n below
@@ -54,7 +56,8 @@ one_times z = *ℤ_comm (pos 1) z ∙ *ℤ-one z
 
 -- the rows with a code, counted
 counted_to : (codes : List ℕ) (k n : ℕ) → n ≤ length codes
-    → sum_to (λ i. cond (eqb (code_of codes i) k) (pos 1) (pos 0)) n ≡ pos (count_by (λ code. eqb code k) (take n codes))
+    → sum_to (λ i. cond (eqb (code_of codes i) k) (pos 1) (pos 0)) n
+    ≡ pos (count_by (λ code. eqb code k) (take n codes))
 counted_to codes k zero within = refl
 counted_to codes k (suc n) within =
     let next : n + 1 ≡ suc n = omega arith in
@@ -88,9 +91,11 @@ regroup f codes m below =
     regroup_any (λ i k. f k) codes m (length codes) below
     ∙ sum_to-same (λ k. sum_to (λ i. cond (eqb (code_of codes i) k) (f k) (pos 0)) (length codes))
     (λ k. pos (occurrences_of codes k) *ℤ f k) m
-    (λ k lt. sum_to-same (λ i. cond (eqb (code_of codes i) k) (f k) (pos 0)) (λ i. cond (eqb (code_of codes i) k) (pos 1) (pos 0) *ℤ f k)
+    (λ k lt. sum_to-same (λ i. cond (eqb (code_of codes i) k) (f k) (pos 0))
+    (λ i. cond (eqb (code_of codes i) k) (pos 1) (pos 0) *ℤ f k)
     (length codes)
-    (λ i l. ap (λ (z : ℤ). cond (eqb (code_of codes i) k) z (pos 0)) (sym (one_times (f k))) ∙ chosen (eqb (code_of codes i) k) (pos 1)
+    (λ i l. ap (λ (z : ℤ). cond (eqb (code_of codes i) k) z (pos 0)) (sym (one_times (f k)))
+    ∙ chosen (eqb (code_of codes i) k) (pos 1)
     (f k))
     ∙ sum_to-times (λ i. cond (eqb (code_of codes i) k) (pos 1) (pos 0)) (f k) (length codes)
     ∙ ap (λ (z : ℤ). z *ℤ f k) (counted codes k))
@@ -104,7 +109,8 @@ first_row_there (code ∷ codes) k some = elim (cases_Bool (eqb code k)) [
 ]
 
 pub code_of_first_row : (codes : List ℕ) (k : ℕ) → 0 < occurrences_of codes k → code_of codes (first_row_of codes k) ≡ k
-code_of_first_row codes k some = eqb-true _ _ (passes_at_first (λ code. eqb code k) codes 0 (first_row_there codes k some))
+code_of_first_row codes k some =
+    eqb-true _ _ (passes_at_first (λ code. eqb code k) codes 0 (first_row_there codes k some))
 
 -- and no row with the code stands before it
 pub first_row_least : (codes : List ℕ) (i : ℕ) → first_row_of codes (code_of codes i) ≤ i
@@ -134,7 +140,8 @@ extremes_regroup n codes Before f v are = (
 )
 
 -- the first cell that fails
-pub first_places_regroup : (n width : ℕ) (codes : List ℕ) (place : ℕ → ℕ → ℕ) (Fails : ℕ → ℕ → Type 0) (p : ℕ) → AreCodesOf n codes
+pub first_places_regroup : (n width : ℕ) (codes : List ℕ) (place : ℕ → ℕ → ℕ) (Fails : ℕ → ℕ → Type 0) (p : ℕ) →
+    AreCodesOf n codes
     → ((i j c : ℕ) → i ≤ j → place i c ≤ place j c)
     → IsFirstPlace (length codes) width place (λ i c. Fails (code_of codes i) c) p ↔ IsFirstPlace n width
     (λ k c. place (first_row_of codes k) c) Fails p
@@ -146,7 +153,8 @@ first_places_regroup n width codes place Fails p are rises = (
       let k_there : k < n = are.in_tuples i rows.reached.2 in
       let used = are.used k k_there in
       let first = first_row_of codes k in
-      let fails : Fails (code_of codes first) c = subst (λ (q : ℕ). Fails q c) (sym (code_of_first_row codes k used)) rows.reached.5 in
+      let fails : Fails (code_of codes first) c = subst (λ (q : ℕ). Fails q c) (sym (code_of_first_row codes k used))
+      rows.reached.5 in
       let not_before : p ≤ place first c = rows.least first c (first_row_there codes k used) rows.reached.3 fails in
       let not_after : place first c ≤ place i c = rises first i c (first_row_least codes i) in
       record {

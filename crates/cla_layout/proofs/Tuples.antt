@@ -11,10 +11,12 @@ pub tuples_count : (width n : ℕ) (values : List ℤ) → length (tuples_of wid
 tuples_count width n values = length-map-range_with_len (tuple_at width values) 0 n
 
 -- tuple k
-pub tuple_is : (width n : ℕ) (values : List ℤ) (k : ℕ) → k < n → get_or (tuples_of width n values) k [] ≡ tuple_at width values k
+pub tuple_is : (width n : ℕ) (values : List ℤ) (k : ℕ) → k < n → get_or (tuples_of width n values) k []
+    ≡ tuple_at width values k
 tuple_is width n values k there = get_or-map-range_with_len (tuple_at width values) 0 n k k [] there (omega arith)
 
-pub tuple_width : (width n : ℕ) (values : List ℤ) (k : ℕ) → k < n → length (get_or (tuples_of width n values) k []) ≡ width
+pub tuple_width : (width n : ℕ) (values : List ℤ) (k : ℕ) → k < n → length (get_or (tuples_of width n values) k [])
+    ≡ width
 tuple_width width n values k there =
     ap (λ (tuple : List ℤ). length tuple) (tuple_is width n values k there)
     ∙ length-map-range_with_len (λ c. at values (k * width + c)) 0 width
@@ -33,7 +35,8 @@ place_within width n k c there place =
     omega (arith, more, place)
 
 -- what holds of each number of a list holds of each item of their integers
-pub item_holds : {N : Type 0} (value : N → ℤ) (P : ℤ → Type 0) → ((x : N) → P (value x)) → (items : List N) (i : ℕ) → i < length items
+pub item_holds : {N : Type 0} (value : N → ℤ) (P : ℤ → Type 0) → ((x : N) → P (value x)) → (items : List N) (i : ℕ) →
+    i < length items
     → P (at (map value items) i)
 item_holds value P holds [] i there = absurd (omega (arith, there))
 item_holds value P holds (x ∷ items) zero there = holds x
@@ -55,5 +58,6 @@ group_with_values bits value in_range width n codes values are =
       small = λ k c there place.
           (let k_there : k < n = rw count at there in
           rw (tuple_value width n (map value values) k c k_there place)
-          (item_holds value (InRange bits) in_range values (k * width + c) (rw are.whole (place_within width n k c k_there place))));
+          (item_holds value (InRange bits) in_range values (k * width + c)
+          (rw are.whole (place_within width n k c k_there place))));
     }

@@ -42,13 +42,21 @@ each_part bits outer inner one other (suc zero) there = other
 each_part bits outer inner one other (suc (suc q)) there = absurd (omega (arith, there))
 
 -- two groups of four rows as a whole layout
-pub two_whole : (bits : ℕ) (parts : List LayoutPart) (outer inner codes codes' : List ℕ) (tuples tuples' : List (List ℤ))
+pub two_whole : (bits : ℕ) (parts : List LayoutPart) (outer inner codes codes' : List ℕ)
+    (tuples tuples' : List (List ℤ))
     (width width' : ℕ)
-    → parts ≡ record { columns = outer; codes = codes; tuples = tuples } ∷ record { columns = inner; codes = codes'; tuples = tuples' } ∷
+    → parts ≡ record { columns = outer; codes = codes; tuples = tuples } ∷ record {
+      columns = inner;
+      codes =
+          codes';
+      tuples = tuples';
+    } ∷
     []
     → outer ≡ 0 ∷ 2 ∷ [] → inner ≡ 1 ∷ [] → length codes ≡ 4 → length codes' ≡ 4 → width ≡ 2 → width' ≡ 1
-    → IsGroup bits width codes tuples → IsGroup bits width' codes' tuples' → IsWhole bits (record { rows = 4; cols = 3; parts = parts })
-two_whole bits parts outer inner codes codes' tuples tuples' width width' parts_are outer_is inner_is rows rows' width_is width_is' group
+    → IsGroup bits width codes tuples → IsGroup bits width' codes' tuples' →
+    IsWhole bits (record { rows = 4; cols = 3; parts = parts })
+two_whole bits parts outer inner codes codes' tuples tuples' width width' parts_are outer_is inner_is rows rows'
+    width_is width_is' group
     group' =
     let one : IsPart bits 4 (record { columns = 0 ∷ 2 ∷ []; codes = codes; tuples = tuples }) =
     record { rising = outer_rises; a_code_each = rows; group = rw width_is at group } in

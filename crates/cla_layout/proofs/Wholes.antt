@@ -73,7 +73,8 @@ twice (part ∷ parts) (suc p) (suc q) j before there has also =
     )
 
 -- so no other part has it
-pub only_part : (cols : ℕ) (parts : List LayoutPart) (p q j : ℕ) → IsPartition cols (all_columns parts) → p < length parts
+pub only_part : (cols : ℕ) (parts : List LayoutPart) (p q j : ℕ) → IsPartition cols (all_columns parts) →
+    p < length parts
     → q < length parts → j < cols
     → has_column (part_at parts p) j ≡ true → has_column (part_at parts q) j ≡ true → p ≡ q
 only_part cols parts p q j partition there also col has and = elim (cases_eq p q) [
@@ -118,13 +119,21 @@ some_part cols parts j partition col = elim (searched_parts parts j) [
 ]
 
 -- and the entry is that of the part
-pub entry_of_part : (cols : ℕ) (parts : List LayoutPart) (q i j : ℕ) → IsPartition cols (all_columns parts) → q < length parts → j < cols
+pub entry_of_part : (cols : ℕ) (parts : List LayoutPart) (q i j : ℕ) → IsPartition cols (all_columns parts) →
+    q < length parts → j < cols
     → has_column (part_at parts q) j ≡ true
-    → entry_in parts i j ≡ cell_of (part_at parts q).codes (part_at parts q).tuples i (first_row_of (part_at parts q).columns j)
+    → entry_in parts i j ≡ cell_of (part_at parts q).codes (part_at parts q).tuples i
+    (first_row_of (part_at parts q).columns j)
 entry_of_part cols parts q i j partition there col has =
     entry_at parts q i j there
     (λ p before. elim (cases_Bool (has_column (part_at parts p) j)) [
-      | inl also ↦ absurd (omega (arith, before, only_part cols parts p q j partition (omega (arith, before, there)) there col also has))
+      | inl also ↦ absurd
+          (omega (
+            arith,
+            before,
+            only_part cols parts p q j partition (omega (arith, before, there)) there col also
+                has,
+          ))
       | inr none ↦ none
     ]) has
 
@@ -136,7 +145,8 @@ own_column part c rising there =
     (place, lt-ltb _ _ (omega (arith, place, there)))
 
 -- which is a column of the matrix
-pub own_column_within : (cols : ℕ) (parts : List LayoutPart) (q j : ℕ) → IsPartition cols (all_columns parts) → q < length parts
+pub own_column_within : (cols : ℕ) (parts : List LayoutPart) (q j : ℕ) → IsPartition cols (all_columns parts) →
+    q < length parts
     → has_column (part_at parts q) j ≡ true → j < cols
 own_column_within cols parts q j partition there has = elim (cases_lt j cols) [
   | inl within ↦ within
@@ -144,7 +154,9 @@ own_column_within cols parts q j partition there has = elim (cases_lt j cols) [
 ]
 
 -- two widths of a group are the same
-pub same_width : (bits w v : ℕ) (codes : List ℕ) (tuples : List (List ℤ)) → IsGroup bits w codes tuples → IsGroup bits v codes tuples → w
+pub same_width : (bits w v : ℕ) (codes : List ℕ) (tuples : List (List ℤ)) → IsGroup bits w codes tuples →
+    IsGroup bits v codes tuples → w
     ≡ v
-same_width bits w v codes tuples is and = let k = code_of codes 0 in let there = is.in_tuples 0 (omega (arith, is.a_row)) in
+same_width bits w v codes tuples is and = let k = code_of codes 0 in let there =
+    is.in_tuples 0 (omega (arith, is.a_row)) in
     sym (is.full k there) ∙ and.full k there

@@ -29,17 +29,21 @@ pub record IsExtreme (Before : ℤ → ℤ → Type 0) (f : ℕ → ℤ) (n : �
 -- the least or the greatest value of a row's tuple is that of a tuple
 abbrev pub ExtremesRegroup : Type 0
 ExtremesRegroup = (n : ℕ) (codes : List ℕ) (before : ℤ → ℤ → Bool) (f : ℕ → ℤ) (v : ℤ) → AreCodesOf n codes →
-    IsExtreme (λ x y. before x y ≡ true) (λ i. f (code_of codes i)) (length codes) v ↔ IsExtreme (λ x y. before x y ≡ true) f n v
+    IsExtreme (λ x y. before x y ≡ true) (λ i. f (code_of codes i)) (length codes) v ↔ IsExtreme (λ x y. before x y
+    ≡ true) f n v
 
 -- The first cell that fails is the least of the cells in the first row of each tuple that fails. What fails is free, and so
 -- is the order of the places, as long as a later row of the same column has no earlier place: so this holds of tables and
 -- of their transposes.
 abbrev pub FirstPlacesRegroup : Type 0
-FirstPlacesRegroup = (n width : ℕ) (codes : List ℕ) (place : ℕ → ℕ → ℕ) (fails : ℕ → ℕ → Bool) (p : ℕ) → AreCodesOf n codes →
+FirstPlacesRegroup = (n width : ℕ) (codes : List ℕ) (place : ℕ → ℕ → ℕ) (fails : ℕ → ℕ → Bool) (p : ℕ) →
+    AreCodesOf n codes →
     ((i j c : ℕ) → i ≤ j → place i c ≤ place j c) →
-    IsFirstPlace (length codes) width place (λ i c. fails (code_of codes i) c ≡ true) p ↔ IsFirstPlace n width (λ k c. place (first_row_of codes k) c) (λ k c. fails k c ≡ true) p
+    IsFirstPlace (length codes) width place (λ i c. fails (code_of codes i) c ≡ true) p ↔ IsFirstPlace n width
+    (λ k c. place (first_row_of codes k) c) (λ k c. fails k c ≡ true) p
 
 -- no cell fails where no tuple does
 abbrev pub FaultsRegroup : Type 0
 FaultsRegroup = (n width : ℕ) (codes : List ℕ) (fails : ℕ → ℕ → Bool) → AreCodesOf n codes →
-    NoneFails (length codes) width (λ i c. fails (code_of codes i) c ≡ true) ↔ NoneFails n width (λ k c. fails k c ≡ true)
+    NoneFails (length codes) width (λ i c. fails (code_of codes i) c ≡ true) ↔ NoneFails n width (λ k c. fails k c
+    ≡ true)

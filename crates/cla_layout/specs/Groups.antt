@@ -42,7 +42,8 @@ AreGathered codes items i into = (k : ℕ) → k < length into → at into k ≡
 
 -- each row's place is joined with the part of the row's tuple: added to it, or the lesser or greater of both
 abbrev pub Scattered : (ℤ → ℤ → ℤ) → List ℕ → List ℤ → List ℤ → List ℤ → Type 0
-Scattered join codes parts old new = (i : ℕ) → i < length codes → at new i ≡ join (at old i) (at parts (code_of codes i))
+Scattered join codes parts old new = (i : ℕ) → i < length codes →
+    at new i ≡ join (at old i) (at parts (code_of codes i))
 
 -- what holds of each group: rows and columns, each code names a tuple, each tuple is the code of some row, and each
 -- value is in range

@@ -28,7 +28,8 @@ no_fault bits rows cols exact some good =
 
 -- the cell before which none is faulty gives the fault
 pub fault_is : (bits rows cols : ℕ) (exact : ℕ → ℕ → Option ℤ) (i j : ℕ) (what : What) → 1 ≤ cols
-    → IsFirstFaulty bits rows cols exact i j what → fault_of bits rows cols exact ≡ Some (fault_at cols (i * cols + j) what)
+    → IsFirstFaulty bits rows cols exact i j what → fault_of bits rows cols exact
+    ≡ Some (fault_at cols (i * cols + j) what)
 fault_is bits rows cols exact i j what some first =
     let p = i * cols + j in
     let there : p < rows * cols = cell_within rows cols i j first.row first.col in
@@ -42,7 +43,8 @@ fault_is bits rows cols exact i j what some first =
     ∙ elim (either_what (cell_fault bits (exact (q / cols) (q % cols)))) [
       | inl good ↦ good
       | inr fails ↦
-          (let after = first.least (q / cols) (q % cols) fails.0 (row_of rows cols q some q_there) (omega (arith, some)) fails.1 in
+          (let after = first.least (q / cols) (q % cols) fails.0 (row_of rows cols q some q_there) (omega (arith, some))
+          fails.1 in
           absurd (omega (arith, after, lt, div-add-mod' q cols)))
     ]))
     (ap (cell_fault bits) (row_by_row-at rows cols exact p None there) ∙ bad_at))

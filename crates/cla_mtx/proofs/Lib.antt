@@ -8,3 +8,4 @@ pub mod ReadingLaws
 pub mod TextLaws
 pub mod PartLaws
 pub mod PlainLaws
+pub mod HeldLaws

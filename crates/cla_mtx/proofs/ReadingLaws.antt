@@ -12,6 +12,7 @@ use Rattle.cla_market.specs.Results.{◌>>=◌}
 use Rattle.cla_market.specs.Texts.{Reading, with_line, at_end, placed_lines, read_from, matrix_in, fault_in}
 use Rattle.cla_mtx.specs.declared.entries.Entries.{Entries}
 use Rattle.cla_mtx.specs.declared.phase.Phase.{Phase}
+use Rattle.cla_mtx.specs.declared.phase.Phase.TheVariants as phases
 use Rattle.cla_mtx.specs.Reading.{ReadsTextWhereTold}
 use Rattle.cla_mtx.specs.Phases.{HasRead, reading_of, TakesLine, EndsAs, LeftDecides}
 use Rattle.cla_mtx.proofs.PlacedLaws.{placed_cons, placed_nil}
@@ -40,6 +41,14 @@ ended bits limit at n reading = rw (placed_nil at) refl
 abbrev Line : ℕ → ℕ → Phase (Entries Matrix) → List ℕ → Result (Unit {0}) MtxFault → Phase (Entries Matrix) → Type 0
 Line bits n phase line result next = (ts : _) → HasRead phase ts
     → TakesLine result next (with_line bits n (reading_of phase ts) (words_of line))
+
+-- the beginning
+pub begins : (bits limit at lines : ℕ) (whole : Option (List ℕ)) → at ≡ 0 → lines ≤ at
+    → LeftDecides bits limit at (lines + 1) phases.Banner whole whole
+begins bits limit at lines None start few = refl
+begins bits limit at lines (Some text) start few =
+    let none : lines ≡ 0 = omega (arith, start, few) in
+    rw (start, none) (omega arith, ([], tt, refl))
 
 module _ (bits limit n : ℕ) (p q : Progress) (same : q.limit ≡ limit) where
   -- a line that was taken

@@ -1,10 +1,12 @@
 -- Tables to which triples are added.
-use Rattle.std.proofs.Common.{Result, Ok, Err, OnOk, ◌≡◌, ℕ, ℤ, pos, ◌<◌, ◌+ℤ◌, [], ◌∷◌, inl, inr, refl, ap, ◌∙◌, arith}
+use Rattle.std.proofs.Common.{Result, Ok, Err, OnOk, ◌≡◌, ℕ, ℤ, pos, ◌<◌, ◌+ℤ◌, [], ◌∷◌, inl, inr, refl, sym, ap, ◌∙◌, arith}
 use Rattle.std.proofs.lemmas.Bool.{cases_eq, eq-eqb, ne_eqb}
 use Rattle.std.proofs.lemmas.Int.{ints}
 use Rattle.cla_spec.specs.Matrix.{Matrix, entry}
 use Rattle.cla_spec.specs.Numbers.{InRange}
-use Rattle.cla_market.specs.Entries.{Triple}
+use Rattle.cla_market.specs.declared.banner.Symmetry.{Symmetry}
+use Rattle.cla_market.specs.declared.banner.Symmetry.TheVariants.{General}
+use Rattle.cla_market.specs.Entries.{Triple, added_by}
 use Rattle.cla_table.specs.Tables.{value_at, Adds}
 use Rattle.cla_mtx.specs.Sums.{AreInRange, AddsAll}
 
@@ -44,6 +46,16 @@ adds_two old mid new t u first second = record {
       (second.grown i j (omega (arith, low, first.same_rows)) (omega (arith, left, first.same_cols))
       ∙ ap (λ (a : ℤ). a +ℤ value_at u.row u.col u.value i j) (first.grown i j low left)
       ∙ plus_two (entry old i j) (value_at t.row t.col t.value i j) (value_at u.row u.col u.value i j));
+}
+
+-- a triple of a general matrix
+pub adds_general : (mirroring : Symmetry) (old new : Matrix) (t : Triple) → mirroring ≡ General
+    → Adds old new t.row t.col t.value → AddsAll old new (added_by mirroring t)
+adds_general mirroring old new t is adds = rw is record {
+  same_rows = adds.same_rows;
+  same_cols = adds.same_cols;
+  grown = λ i j low left. adds.grown i j low left
+      ∙ ap (λ (z : ℤ). entry old i j +ℤ z) (sym (plus_nothing (value_at t.row t.col t.value i j)));
 }
 
 -- a fact of a good result

@@ -1,6 +1,7 @@
 -- What the reader keeps of the lines that were read, and what a line does to it.
-use Rattle.std.specs.Prelude.{◌≡◌, ℕ, ◌*◌, ◌≤◌, ◌<◌, List, length, true, Option, Some, None, Result, Ok, Err}
+use Rattle.std.specs.Prelude.{◌≡◌, ℕ, ◌+◌, ◌*◌, ◌≤◌, ◌<◌, List, drop, length, true, Option, Some, None, Result, Ok, Err}
 use Rattle.cla_spec.specs.Matrix.{Matrix, most_cells}
+use Rattle.cla_io.specs.Lines.{with_left}
 use Rattle.cla_market.specs.declared.banner.Banner.{Banner}
 use Rattle.cla_market.specs.declared.banner.Format.TheVariants.{Array}
 use Rattle.cla_market.specs.declared.size.Size.{Size}
@@ -65,8 +66,11 @@ TakesLine (Ok u) phase read = (ts : List Triple) × (read ≡ Ok (reading_of pha
 TakesLine (Err fault) phase read = IsOfText fault → read ≡ Err fault
 
 -- the same for an entry line
+abbrev pub TakesTriple : Entries Matrix → Result Reading MtxFault → Type 0
+TakesTriple e read = (ts : List Triple) × (read ≡ Ok (AtEntries e.banner e.size ts)) × HasTriples e ts
+
 abbrev pub TakesEntry : Result (Unit {0}) MtxFault → Entries Matrix → Result Reading MtxFault → Type 0
-TakesEntry (Ok u) e read = (ts : List Triple) × (read ≡ Ok (AtEntries e.banner e.size ts)) × HasTriples e ts
+TakesEntry (Ok u) e read = TakesTriple e read
 TakesEntry (Err fault) e read = IsOfText fault → read ≡ Err fault
 
 -- what the end of the text says
@@ -98,7 +102,8 @@ LeftDecides bits limit at n phase (Some bytes) (Some text) = (at ≤ limit) × (
     × (read_from bits limit n (reading_of phase ts) (placed_lines at bytes) ≡ matrix_in bits limit text))
 
 -- what some lines did: what is left decides still, or one of them has the whole text's first fault
-abbrev pub GoesOn : ℕ → ℕ → ℕ → ℕ → Phase (Entries Matrix) → Option (List ℕ) → Option (List ℕ) → Result (Unit {0}) MtxFault
+abbrev pub GoesOn : ℕ → ℕ → ℕ → ℕ → Phase (Entries Matrix) → Option (List ℕ) → Option (List ℕ) →
+    Result (Unit {0}) MtxFault
     → Type 0
 GoesOn bits limit at n phase here whole (Ok u) = LeftDecides bits limit at n phase here whole
 GoesOn bits limit at n phase here whole (Err fault) = ReadsTextWhereTold bits limit whole here (Err fault)
@@ -110,3 +115,9 @@ EntriesDecide bits limit at n e here whole = LeftDecides bits limit at n (phases
 abbrev pub EntriesGoOn : ℕ → ℕ → ℕ → ℕ → Entries Matrix → Option (List ℕ) → Option (List ℕ)
     → Result (Unit {0}) MtxFault → Type 0
 EntriesGoOn bits limit at n e here whole result = GoesOn bits limit at n (phases.Entries e) here whole result
+
+-- so many entry lines were taken of the bytes that come next, none of which stands past the limit
+abbrev pub DecidesOver : ℕ → Entries Matrix → Entries Matrix → List ℕ → ℕ → ℕ → Type 0
+DecidesOver bits old new bytes count width = (limit at n : ℕ) (left whole : Option (List ℕ)) → at + length bytes ≤ limit
+    → EntriesDecide bits limit at n old (with_left bytes left) whole
+    → EntriesDecide bits limit (at + width) (n + count) new (with_left (drop width bytes) left) whole

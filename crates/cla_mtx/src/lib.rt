@@ -1,6 +1,7 @@
 //! The reader and the writer of Matrix Market files, by the NIST Matrix Market exchange format.
 #![tactic(auto)]
 
+mod dense;
 mod entries;
 mod next_cell;
 mod phase;

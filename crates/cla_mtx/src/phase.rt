@@ -10,6 +10,7 @@ ghost use Rattle.cla_market.specs.Texts.{with_line, at_end};
 ghost use Rattle.cla_market_lines.specs.Lines.{map_ok};
 ghost use Rattle.cla_mtx.specs.Phases.{IsReady, IsReadyPhase, HasTriples, HasRead, reading_of, TakesLine, LeftDecides, GoesOn, EndsAs, IsNotRead, size_of};
 
+use crate::dense::take_dense;
 use crate::entries::{Entries, fault_at, take_entry};
 use crate::next_cell::first_cell;
 use crate::plain::take_plain;
@@ -70,6 +71,7 @@ pub(crate) fn take_line<N: Number>(
 
 /// Takes the plain lines that come next, as many as are held, if they are entry lines.
 pub(crate) fn take_plain_lines<N: Number, F: Files>(
+    alloc: Global,
     phase: &mut Phase<Entries<Triples<N>>>,
     input: &mut Input<'_, F>,
 ) -> Result<(), MtxFault>
@@ -88,7 +90,10 @@ pub(crate) fn take_plain_lines<N: Number, F: Files>(
         → GoesOn N.BITS p.limit input.new.taken.at (input.new.taken.lines + 1) phase.new after whole result }
 {
     match phase {
-        Phase::Entries(entries) => take_plain(entries, input),
+        Phase::Entries(entries) => {
+            take_dense(alloc, entries, input);
+            take_plain(entries, input)
+        }
         _ => Ok(()),
     }
 }

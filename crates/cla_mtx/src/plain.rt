@@ -12,7 +12,7 @@ ghost use Rattle.cla_market.specs.Entries.{coordinate_entry, array_entry, entry_
 ghost use Rattle.cla_market.specs.Texts.{is_skipped};
 ghost use Rattle.cla_market_lines.specs.Plain.{IsEndAt, signed};
 ghost use Rattle.cla_market_lines.specs.Lines.{triple_of};
-ghost use Rattle.cla_mtx.specs.Phases.{IsReady, IsNotRead, EntriesDecide, EntriesGoOn};
+ghost use Rattle.cla_mtx.specs.Phases.{IsReady, IsNextOf, IsNotRead, EntriesDecide, EntriesGoOn};
 
 use crate::entries::{Entries, put_entry};
 use crate::next_cell::Cell;
@@ -26,36 +26,33 @@ use cla_table::Triples;
 #[inline(always)]
 #[tactic(auto, unfolding(cla_market::specs::Entries::entry_in))]
 pub(crate) fn plain_entry<N: Number>(
-    entries: &Entries<Triples<N>>,
+    banner: Banner,
+    size: Size,
+    count: u32,
+    next: Cell,
     bytes: &[u8],
 ) -> Option<(Entry<N>, usize)>
     requires bits { IsSupported N.BITS }
-    requires ready { IsReady N.BITS entries.now }
+    requires few { count ≤ size.entries }
+    requires next { IsNextOf banner size count next }
     ensures end { IfSome result (λ r. IsEndAt bytes.now r.1) }
-    ensures more { IfSome result (λ r. entries.now.count < entries.now.size.entries) }
+    ensures more { IfSome result (λ r. count < size.entries) }
     ensures some { IfSome result (λ r. is_skipped (words_of (first_line bytes.now)) ≡ false) }
-    ensures exact { let e = entries.now in
-        let words = words_of (first_line bytes.now) in
-        IfSome result (λ r. Ok (triple_of N.value r.0) ≡ entry_in N.BITS e.banner e.size e.count words) }
-    ensures row { IfSome result (λ r. r.0.row < entries.now.size.rows) }
-    ensures col { IfSome result (λ r. r.0.col < entries.now.size.cols) }
-    ensures cell { let next = entries.now.next in
-        IfSome result (λ r. entries.now.banner.format ≡ Format.Array → (r.0.row ≡ next.row) × (r.0.col ≡ next.col)) }
+    ensures exact { let words = words_of (first_line bytes.now) in
+        IfSome result (λ r. Ok (triple_of N.value r.0) ≡ entry_in N.BITS banner size count words) }
+    ensures row { IfSome result (λ r. r.0.row < size.rows) }
+    ensures col { IfSome result (λ r. r.0.col < size.cols) }
+    ensures cell { IfSome result (λ r. banner.format ≡ Format.Array → (r.0.row ≡ next.row) × (r.0.col ≡ next.col)) }
 {
-    if entries.count == entries.size.entries {
+    if count == size.entries {
         return None;
     }
-    let Banner {
-        format,
-        field,
-        symmetry,
-    } = entries.banner;
-    let Size { rows, cols, .. } = entries.size;
-    match (format, field, symmetry) {
+    let Size { rows, cols, .. } = size;
+    match (banner.format, banner.field, banner.symmetry) {
         (Format::Coordinate, Field::Integer, Symmetry::General) => plain_coordinate(
             rows, cols, bytes,
         ),
-        (Format::Array, _, _) => plain_array(entries.next, bytes),
+        (Format::Array, _, _) => plain_array(next, bytes),
         _ => None,
     }
 }
@@ -128,7 +125,14 @@ pub(crate) fn take_plain<N: Number, F: Files>(
         → EntriesGoOn N.BITS p.limit input.new.taken.at (input.new.taken.lines + 1) entries.new after whole result }
 {
     'plain: loop {
-        let Some((entry, place)) = plain_entry(entries, input.ahead()) else {
+        let (banner, size) = (entries.banner, entries.size);
+        let Some((entry, place)) = plain_entry(
+            banner,
+            size,
+            entries.count,
+            entries.next,
+            input.ahead(),
+        ) else {
             return Ok(());
         };
         if !input.take_ahead(place) {

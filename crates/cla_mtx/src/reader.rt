@@ -28,7 +28,6 @@ pub fn read_mtx<N: Number, F: Files>(
 ) -> Result<Dense<N>, MtxFault>
     requires bits { IsSupported N.BITS }
     requires nothing_taken { input.old.taken.at ≡ 0 }
-    requires no_line { input.old.taken.lines ≡ 0 }
     ensures same_reference { input.new.files.ghost_name ≡ input.old.files.ghost_name }
     ensures frame { ReadsOn (F.state input.old.files.now) (F.state input.new.files.now) }
     ensures cause { let before = (F.state input.old.files.now).read_faults in
@@ -45,7 +44,7 @@ pub fn read_mtx<N: Number, F: Files>(
                     Ok(()) => (),
                     Err(fault) => return Err(fault),
                 }
-                match take_plain_lines(&mut phase, input) {
+                match take_plain_lines(alloc, &mut phase, input) {
                     Ok(()) => (),
                     Err(fault) => return Err(fault),
                 }

@@ -15,7 +15,13 @@ value_size bits v supported in_range =
 
 -- a product
 pub product_size : (a b : ℤ) (m n : ℕ) → unsigned_abs a ≤ m → unsigned_abs b ≤ n → unsigned_abs (a *ℤ b) ≤ m * n
-product_size a b m n small few = omega (arith, unsigned_abs-mul a b, mul-le-mul {n₁ = unsigned_abs a} {m₁ = unsigned_abs b} {n₂ = m} {m₂ = n} small few)
+product_size a b m n small few =
+    omega (
+      arith,
+      unsigned_abs-mul a b,
+      mul-le-mul {n₁ = unsigned_abs a} {m₁ = unsigned_abs b} {n₂ = m} {m₂ =
+          n} small few,
+    )
 
 -- a sum of two
 pub plus_size : (a b : ℤ) → unsigned_abs (a +ℤ b) ≤ unsigned_abs a + unsigned_abs b

@@ -22,7 +22,8 @@ or_else later (Some what) cols place = Some (fault_at cols place what)
 -- the first faulty cell among these exact cells, the first of which stands at this place
 abbrev pub first_fault_from : ℕ → ℕ → ℕ → List (Option ℤ) → Option OpFault
 first_fault_from bits cols place [] = None
-first_fault_from bits cols place (cell ∷ cells) = or_else (first_fault_from bits cols (place + 1) cells) (cell_fault bits cell) cols place
+first_fault_from bits cols place (cell ∷ cells) =
+    or_else (first_fault_from bits cols (place + 1) cells) (cell_fault bits cell) cols place
 
 -- the first faulty cell of a result with these exact cells, row by row
 abbrev pub first_fault : ℕ → ℕ → List (Option ℤ) → Option OpFault
@@ -42,4 +43,6 @@ exactly entry i j = Some (entry i j)
 
 -- the number of an exact value, or its fault
 abbrev pub AnswersNumber : {N : Type 0} → ℕ → (N → ℤ) → ℤ → Result N OpFault → Type 0
-AnswersNumber bits value exact result = MatchResult result (λ n. (value n ≡ exact) × (scalar_fault bits (Some exact) ≡ None)) (λ fault. scalar_fault bits (Some exact) ≡ Some fault)
+AnswersNumber bits value exact result =
+    MatchResult result (λ n. (value n ≡ exact) × (scalar_fault bits (Some exact) ≡ None))
+    (λ fault. scalar_fault bits (Some exact) ≡ Some fault)

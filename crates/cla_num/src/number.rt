@@ -4,6 +4,7 @@ ghost use Rattle.std.specs.Prelude.{◌≡◌, ℕ, ℤ, ◌≤◌, ◌+◌, ◌
 ghost use Rattle.std.specs.Int.{w128};
 ghost use Rattle.std.specs.Int.RustNames.{FitsSigned};
 ghost use Rattle.std.specs.Ordering.{int_cmp, int_eq};
+ghost use Rattle.cla_spec.specs.Bytes.{value_bytes};
 ghost use Rattle.cla_spec.specs.Numbers.{InRange, decimal_of};
 ghost use Rattle.cla_num.specs.Bits.{IsSupported};
 ghost use Rattle.cla_num.specs.Cells.{cell_value};
@@ -56,7 +57,8 @@ pub trait Number: Copy + Ord + Eq + Hash {
     /// It counts as one map evaluation either way.
     fn apply(op: CellOp, a: Self, b: Self, meter: &mut Meter) -> Result<Wide, ZeroDivisor>
         requires room { AreBelow operation_bound meter.old }
-        ensures value { MatchResult result (λ w. cell_value op (value a) (value b) ≡ Some w) (λ e. cell_value op (value a) (value b) ≡ None) }
+        ensures value { MatchResult result (λ w. cell_value op (value a) (value b) ≡ Some w)
+            (λ e. cell_value op (value a) (value b) ≡ None) }
         ensures counts { meter.new ≡ record meter.old { maps = meter.old.maps + 1 } };
 
     /// Puts the decimal text into the first bytes of `into`, and gives its length.
@@ -64,6 +66,10 @@ pub trait Number: Copy + Ord + Eq + Hash {
         ensures text { take result into.new ≡ decimal_of (value self) }
         ensures length { result ≡ length (decimal_of (value self)) }
         ensures within { result ≤ 40 };
+
+    /// The eight bytes of the integer in two's complement, the lowest first.
+    fn to_le(self) -> [u8; 8]
+        ensures { result ≡ value_bytes 8 (value self) };
 
     /// A number is in range.
     ghost in_range: { (x : Self) → InRange BITS (value x) };

@@ -14,7 +14,8 @@ pub record AreJoinedTo (join : ℤ → ℤ → ℤ) (s : ℕ) (codes : List ℕ)
   pub left : (i : ℕ) → s * segment_rows ≤ i → at new i ≡ at old i
 
 -- one more segment
-pub segment_joined : (join : ℤ → ℤ → ℤ) (s : ℕ) (codes : List ℕ) (parts old into new : List ℤ) → AreJoinedTo join s codes parts old into →
+pub segment_joined : (join : ℤ → ℤ → ℤ) (s : ℕ) (codes : List ℕ) (parts old into new : List ℤ) →
+    AreJoinedTo join s codes parts old into →
     AreJoined join (s * segment_rows) (segment_of codes s) parts into new → AreJoinedTo join (s + 1) codes parts old new
 segment_joined join s codes parts old into new are more = record {
   done = λ i row there. elim (cases_lt i (s * segment_rows)) [
@@ -34,20 +35,25 @@ segment_joined join s codes parts old into new are more = record {
 
 -- the places from place `first` on are those of rows with these codes: the rows of the codes before code k are joined, and
 -- the others are as they were
-pub record AreJoinedBelow (join : ℤ → ℤ → ℤ) (first : ℕ) (codes : List ℕ) (parts : List ℤ) (k : ℕ) (old new : List ℤ) : Type 0 where
-  pub done : (j : ℕ) → j < length codes → code_of codes j < k → at new (first + j) ≡ join (at old (first + j)) (at parts (code_of codes j))
+pub record AreJoinedBelow (join : ℤ → ℤ → ℤ) (first : ℕ) (codes : List ℕ) (parts : List ℤ) (k : ℕ) (old new : List ℤ) :
+    Type 0 where
+  pub done : (j : ℕ) → j < length codes → code_of codes j < k →
+      at new (first + j) ≡ join (at old (first + j)) (at parts (code_of codes j))
   pub left : (j : ℕ) → j < length codes → k ≤ code_of codes j → at new (first + j) ≡ at old (first + j)
   pub before : (i : ℕ) → i < first → at new i ≡ at old i
   pub past : (i : ℕ) → first + length codes ≤ i → at new i ≡ at old i
 
-no_rest : (codes : List ℕ) (rest k : ℕ) (list : List ℕ) → list ≡ listed codes rest k → k ≡ rest → (n : ℕ) → n < length list → ⊥
+no_rest : (codes : List ℕ) (rest k : ℕ) (list : List ℕ) → list ≡ listed codes rest k → k ≡ rest → (n : ℕ) →
+    n < length list → ⊥
 no_rest codes rest k list is same n there =
     let none : listed codes rest k ≡ [] = ap (λ (b : Bool). cond b [] (rows_of codes k)) (eq-eqb k rest same) in
     omega (arith, there, ap (λ (xs : List ℕ). length xs) (is ∙ none))
 
 -- the rows of one more code are joined, by the walk over its list; the part of the rest leaves all as it is
-pub list_joined : (join : ℤ → ℤ → ℤ) (first : ℕ) (codes : List ℕ) (rest k : ℕ) (list : List ℕ) (parts old into new : List ℤ) →
-    list ≡ listed codes rest k → ((a : ℤ) → join a (at parts rest) ≡ a) → AreJoinedBelow join first codes parts k old into →
+pub list_joined : (join : ℤ → ℤ → ℤ) (first : ℕ) (codes : List ℕ) (rest k : ℕ) (list : List ℕ)
+    (parts old into new : List ℤ) →
+    list ≡ listed codes rest k → ((a : ℤ) → join a (at parts rest) ≡ a) →
+    AreJoinedBelow join first codes parts k old into →
     IsListJoined join first list (at parts k) into new → AreJoinedBelow join first codes parts (k + 1) old new
 list_joined join first codes rest k list parts old into new is leaves are walk =
     let lists = are_listed codes rest k list is in
@@ -55,14 +61,16 @@ list_joined join first codes rest k list parts old into new is leaves are walk =
     let kept = λ (j m : ℕ). join (at old (first + j)) (at parts m) in
     let place : (j n : ℕ) → first + code_of list n ≡ first + j → code_of list n ≡ j = λ j n same. omega (arith, same) in
     let other : (j : ℕ) → (code_of codes j ≡ k → ⊥) → at new (first + j) ≡ at into (first + j) =
-    λ j apart. walk.others (first + j) (λ n there same. apart (sym (ap (code_of codes) (place j n same)) ∙ lists.has n there)) in
+    λ j apart. walk.others (first + j) (λ n there same. apart (sym (ap (code_of codes) (place j n same))
+    ∙ lists.has n there)) in
     record {
       done = λ j row below. elim (cases_eq (code_of codes j) k) [
         | inl same ↦
             let untouched = are.left j row (omega (arith, same)) in
             elim (cases_eq k rest) [
               | inl is_rest ↦
-                  walk.others (first + j) (λ n there _. absurd (no_rest codes rest k list is is_rest n there)) ∙ untouched
+                  walk.others (first + j) (λ n there _. absurd (no_rest codes rest k list is is_rest n there))
+                  ∙ untouched
                   ∙ sym (leaves (at old (first + j))) ∙ ap (kept j) (sym (same ∙ is_rest))
               | inr unlike ↦
                   let found = lists.all j row same unlike in
@@ -71,7 +79,9 @@ list_joined join first codes rest k list parts old into new is leaves are walk =
             ]
         | inr apart ↦ other j apart ∙ are.done j row (omega (arith, below, apart))
       ];
-      left = λ j row above. other j (λ same. absurd (omega (arith, same, above))) ∙ are.left j row (omega (arith, above));
+      left = λ j row above. other j (λ same. absurd (omega (arith, same, above)))
+          ∙ are.left j row (omega (arith, above));
       before = λ i lower. walk.others i (λ n there same. absurd (omega (arith, same, lower))) ∙ are.before i lower;
-      past = λ i upper. walk.others i (λ n there same. absurd (omega (arith, same, upper, lists.within n there))) ∙ are.past i upper;
+      past = λ i upper. walk.others i (λ n there same. absurd (omega (arith, same, upper, lists.within n there)))
+          ∙ are.past i upper;
     }

@@ -53,7 +53,8 @@ in_segment v s k there =
       | inr other ↦ omega (arith, list_within_all g k v.tuples (omega (arith, there, other)))
     ]
 
-pub begin_within : (v : OffsetsOf) (n s k : ℕ) → s < n → k ≤ v.tuples → list_begin v s k ≤ length (lists_to (lists_of v) n)
+pub begin_within : (v : OffsetsOf) (n s k : ℕ) → s < n → k ≤ v.tuples →
+    list_begin v s k ≤ length (lists_to (lists_of v) n)
 begin_within v n s k s_there there = omega (arith, in_segment v s k there, list_within_all (lists_of v) s n s_there)
 
 -- what stands from there to where the next one begins is the list
@@ -81,7 +82,12 @@ bases_count n v l are = ap length are.bases ∙ begins_count (lists_of v) n
 pub start_there : (n : ℕ) (v : OffsetsOf) (l : Lists) → AreLists n v l → (s k : ℕ) → s < n → k ≤ v.tuples →
     s * (v.tuples + 1) + k < length l.starts.items
 start_there n v l are s k s_there there =
-    omega (arith, ap length are.starts, starts_size v n, place_within (v.tuples + 1) n s k s_there (omega (arith, there)))
+    omega (
+      arith,
+      ap length are.starts,
+      starts_size v n,
+      place_within (v.tuples + 1) n s k s_there (omega (arith, there)),
+    )
 
 -- what is kept is where the list begins
 pub begin_is : (n : ℕ) (v : OffsetsOf) (l : Lists) → AreLists n v l → (s k : ℕ) → s < n → k ≤ v.tuples →
@@ -90,9 +96,11 @@ begin_is n v l are s k s_there there =
     let f = lists_of v in
     let g = list_of v s in
     let p = s * (v.tuples + 1) + k in
-    let base : code_of l.bases.items s ≡ length (lists_to f s) = ap (λ (xs : List ℕ). code_of xs s) are.bases ∙ begin_at f s n s_there in
+    let base : code_of l.bases.items s ≡ length (lists_to f s) = ap (λ (xs : List ℕ). code_of xs s) are.bases
+    ∙ begin_at f s n s_there in
     let start : code_of l.starts.items p ≡ length (lists_to g k) =
-    ap (λ (xs : List ℕ). code_of xs p) are.starts ∙ ap (λ (m : ℕ). code_of (lists_to (starts_of v) n) (m + k)) (sym (starts_size v s))
+    ap (λ (xs : List ℕ). code_of xs p) are.starts ∙ ap (λ (m : ℕ). code_of (lists_to (starts_of v) n) (m + k))
+    (sym (starts_size v s))
     ∙ list_item (starts_of v) s n k s_there (omega (arith, begins_count g (v.tuples + 1), there))
     ∙ begin_at g k (v.tuples + 1) (omega (arith, there)) in
     omega (arith, base, start)
@@ -102,6 +110,9 @@ pub list_is : (n : ℕ) (v : OffsetsOf) (l : Lists) → AreLists n v l → (s k 
 list_is n v l are s k s_there there =
     let begin = list_begin v s in
     let items = l.offsets.items in
-    ap (λ (b : ℕ). take (begin_kept v.tuples l s (k + 1) - b) (drop b items)) (begin_is n v l are s k s_there (omega (arith, there)))
-    ∙ ap (λ (e : ℕ). take (e - begin k) (drop (begin k) items)) (begin_is n v l are s (k + 1) s_there (omega (arith, there)))
-    ∙ ap (λ (xs : List ℕ). take (begin (k + 1) - begin k) (drop (begin k) xs)) are.offsets ∙ list_there v n s k s_there there
+    ap (λ (b : ℕ). take (begin_kept v.tuples l s (k + 1) - b) (drop b items))
+    (begin_is n v l are s k s_there (omega (arith, there)))
+    ∙ ap (λ (e : ℕ). take (e - begin k) (drop (begin k) items))
+    (begin_is n v l are s (k + 1) s_there (omega (arith, there)))
+    ∙ ap (λ (xs : List ℕ). take (begin (k + 1) - begin k) (drop (begin k) xs)) are.offsets
+    ∙ list_there v n s k s_there there

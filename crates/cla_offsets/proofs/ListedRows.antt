@@ -20,7 +20,8 @@ pub record AreListed (codes : List ℕ) (rest k : ℕ) (list : List ℕ) : Type 
   pub has : (n : ℕ) → n < length list → code_of codes (code_of list n) ≡ k
   pub rising : (m n : ℕ) → m < n → n < length list → code_of list m < code_of list n
   pub few : length list ≤ occurrences_of codes k
-  pub all : (j : ℕ) → j < length codes → code_of codes j ≡ k → (k ≡ rest → ⊥) → (n : ℕ) × (n < length list) × (code_of list n ≡ j)
+  pub all : (j : ℕ) → j < length codes → code_of codes j ≡ k → (k ≡ rest → ⊥) → (n : ℕ) × (n < length list)
+      × (code_of list n ≡ j)
 
 none_listed : (codes : List ℕ) (rest k : ℕ) → k ≡ rest → AreListed codes rest k []
 none_listed codes rest k is = record {
@@ -45,7 +46,8 @@ rows_are_listed codes rest k =
           (length (rows_where test j), place.0, place.1));
     }
 
-pub are_listed : (codes : List ℕ) (rest k : ℕ) (list : List ℕ) → list ≡ listed codes rest k → AreListed codes rest k list
+pub are_listed : (codes : List ℕ) (rest k : ℕ) (list : List ℕ) → list ≡ listed codes rest k →
+    AreListed codes rest k list
 are_listed codes rest k list is =
     let Are = λ (b : Bool). AreListed codes rest k (cond b [] (rows_of codes k)) in
     subst (AreListed codes rest k) (sym is) (elim (cases_eq k rest) [
@@ -67,7 +69,8 @@ pub listed_few : (codes : List ℕ) (rest k : ℕ) → length (lists_to (listed 
 listed_few codes rest k = omega (arith, listed_below codes rest k, below_few codes k)
 
 -- whether a row is listed
-list_has_if : (j : ℕ) (b : Bool) (xs : List ℕ) → list_any (λ o. eqb o j) (cond b [] xs) ≡ cond b false (list_any (λ o. eqb o j) xs)
+list_has_if : (j : ℕ) (b : Bool) (xs : List ℕ) → list_any (λ o. eqb o j) (cond b [] xs)
+    ≡ cond b false (list_any (λ o. eqb o j) xs)
 list_has_if j true xs = refl
 list_has_if j false xs = refl
 

@@ -27,7 +27,8 @@ pub told_step : (rest : ℕ) (lists : ℕ → List ℕ) (k j n : ℕ) (list : Li
     list_any (λ o. eqb o j) list ≡ b → cond b k (code_by rest lists k j) ≡ code_by rest lists n j
 told_step rest lists k j n list b next is has =
     sym (ap (λ (m : ℕ). code_by rest lists m j) next ∙ code_by_more rest lists k j
-    ∙ ap (λ (b : Bool). cond b k (code_by rest lists k j)) (ap (λ (xs : List ℕ). list_any (λ o. eqb o j) xs) (sym is) ∙ has))
+    ∙ ap (λ (b : Bool). cond b k (code_by rest lists k j)) (ap (λ (xs : List ℕ). list_any (λ o. eqb o j) xs) (sym is)
+    ∙ has))
 
 none_either : (b : Bool) → cond b false false ≡ false
 none_either true = refl
@@ -39,7 +40,8 @@ record IsTold (code rest k told : ℕ) : Type 0 where
   above : k ≤ code → told ≡ rest
 
 told_to : (codes : List ℕ) (rest : ℕ) (lists : ℕ → List ℕ) (j n : ℕ) → j < length codes →
-    ((k : ℕ) → k < n → lists k ≡ listed codes rest k) → (k : ℕ) → k ≤ n → IsTold (code_of codes j) rest k (code_by rest lists k j)
+    ((k : ℕ) → k < n → lists k ≡ listed codes rest k) → (k : ℕ) → k ≤ n →
+    IsTold (code_of codes j) rest k (code_by rest lists k j)
 told_to codes rest lists j n row are zero within = record {
   below = λ less. absurd (omega (arith, less));
   above = λ _. code_by_none rest lists j;
@@ -49,7 +51,8 @@ told_to codes rest lists j n row are (suc k) within =
     let next : k + 1 ≡ suc k = omega arith in
     let so_far = told_to codes rest lists j n row are k (omega (arith, within)) in
     let choose = λ (b : Bool). cond b k (code_by rest lists k j) in
-    let has = ap (λ (xs : List ℕ). list_any (λ o. eqb o j) xs) (are k (omega (arith, within))) ∙ list_has codes rest k j row in
+    let has = ap (λ (xs : List ℕ). list_any (λ o. eqb o j) xs) (are k (omega (arith, within)))
+    ∙ list_has codes rest k j row in
     let step = code_by_more rest lists k j ∙ ap choose has in
     let rest_at = λ (b : Bool). choose (cond b false (eqb c k)) in
     let is_at = λ (b : Bool). choose (cond (eqb k rest) false b) in
@@ -94,4 +97,5 @@ lists_tell v l below are =
     (λ i there. (let row : i < rows = rw size at there in
     let begins : i / segment_rows < segments_of rows = segment_there rows (i / segment_rows) (omega (arith, row)) in
     get_or-map-range_with_len code 0 rows i i 0 row (omega arith)
-    ∙ row_told v (lists i) i row (below i row) (λ k k_there. list_is (segments_of rows) v l are (i / segment_rows) k begins k_there)))
+    ∙ row_told v (lists i) i row (below i row) (λ k k_there. list_is (segments_of rows) v l are (i / segment_rows) k
+    begins k_there)))

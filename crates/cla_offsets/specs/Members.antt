@@ -15,7 +15,8 @@ use Rattle.cla_offsets.specs.Rows.{rest_in}
 abbrev pub tuples_in : {N : Type 0} → (N → ℤ) → ℕ → List N → List (List ℤ)
 tuples_in value width values = tuples_of width (length values / width) (map value values)
 
-module _ {N : Type 0} {n : number.Ghosts N} {o : ord.Ghosts N} {e : partial_eq.Ghosts N} {p : partial_ord.Ghosts N} {h : hash.Ghosts N} where
+module _ {N : Type 0} {n : number.Ghosts N} {o : ord.Ghosts N} {e : partial_eq.Ghosts N} {p : partial_ord.Ghosts N}
+    {h : hash.Ghosts N} where
   abbrev pub offsets_columns : Offsets N n o e p h → ℕ
   offsets_columns g = g.dictionary.width
 
@@ -39,8 +40,10 @@ module _ {N : Type 0} {n : number.Ghosts N} {o : ord.Ghosts N} {e : partial_eq.G
 
   -- a group of the n rows from row a on
   abbrev pub IsSlice : ℕ → ℕ → Offsets N n o e p h → Offsets N n o e p h → Type 0
-  IsSlice a n g slice = AreRowsFrom a n (offsets_columns g) (offsets_codes g) (offsets_dictionary g) (offsets_codes slice) (offsets_dictionary slice)
+  IsSlice a n g slice = AreRowsFrom a n (offsets_columns g) (offsets_codes g) (offsets_dictionary g)
+      (offsets_codes slice) (offsets_dictionary slice)
 
   -- the law of groups holds of each
-  pub offsets_law : (g : Offsets N n o e p h) → IsGroup n.BITS (offsets_columns g) (offsets_codes g) (offsets_dictionary g)
+  pub offsets_law : (g : Offsets N n o e p h) →
+      IsGroup n.BITS (offsets_columns g) (offsets_codes g) (offsets_dictionary g)
   offsets_law g = g.is

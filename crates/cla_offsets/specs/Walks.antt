@@ -19,7 +19,8 @@ MayScatter can_join codes parts old = (i : ℕ) → i < length old → can_join 
 
 -- the places from place `first` on, which are those of rows with these codes, may be joined with parts; and they are
 abbrev pub MayBeJoined : (ℤ → ℤ → Type 0) → ℕ → List ℕ → List ℤ → List ℤ → Type 0
-MayBeJoined can_join first codes parts old = (j : ℕ) → j < length codes → can_join (at old (first + j)) (at parts (code_of codes j))
+MayBeJoined can_join first codes parts old = (j : ℕ) → j < length codes →
+    can_join (at old (first + j)) (at parts (code_of codes j))
 
 pub record AreJoined (join : ℤ → ℤ → ℤ) (first : ℕ) (codes : List ℕ) (parts old new : List ℤ) : Type 0 where
   pub before : (i : ℕ) → i < first → at new i ≡ at old i
@@ -28,7 +29,8 @@ pub record AreJoined (join : ℤ → ℤ → ℤ) (first : ℕ) (codes : List �
 
 -- the same of the places of a list of offsets, and one part
 abbrev pub MayListBeJoined : (ℤ → ℤ → Type 0) → ℕ → List ℕ → ℤ → List ℤ → Type 0
-MayListBeJoined can_join first list part old = (n : ℕ) → n < length list → can_join (at old (first + code_of list n)) part
+MayListBeJoined can_join first list part old = (n : ℕ) → n < length list →
+    can_join (at old (first + code_of list n)) part
 
 pub record IsListJoined (join : ℤ → ℤ → ℤ) (first : ℕ) (list : List ℕ) (part : ℤ) (old new : List ℤ) : Type 0 where
   pub joined : (n : ℕ) → n < length list → at new (first + code_of list n) ≡ join (at old (first + code_of list n)) part
@@ -44,4 +46,5 @@ AreCodesFrom first segment codes = (j : ℕ) → j < length segment → code_of 
 
 -- the places are such sums over the rows before row `first`, from which on the rows have these codes
 abbrev pub AreGatheredBefore : ℕ → List ℕ → List ℤ → List ℤ → Type 0
-AreGatheredBefore first segment items into = (codes : List ℕ) × AreCodesFrom first segment codes × AreGathered codes items first into
+AreGatheredBefore first segment items into = (codes : List ℕ) × AreCodesFrom first segment codes
+    × AreGathered codes items first into

@@ -37,7 +37,8 @@ impl Model for OffsetRows {
 
     ghost view = { λ r. rows_kept r.rows r.tuples r.rest r.lists };
 
-    ghost invariant = { λ r. AreKept (rows_kept r.rows r.tuples r.rest r.lists) r.rows r.tuples r.rest r.lists r.occurrences };
+    ghost invariant = { λ r. AreKept (rows_kept r.rows r.tuples r.rest r.lists) r.rows r.tuples r.rest r.lists
+        r.occurrences };
 }
 
 impl OffsetRows {

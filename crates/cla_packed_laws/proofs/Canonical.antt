@@ -14,7 +14,7 @@ use Rattle.cla_spec.specs.Numbers.{in_range}
 use Rattle.cla_layout.specs.Canonical.{AreDistinct}
 use Rattle.cla_layout.specs.Layouts.{IsPartition}
 use Rattle.cla_layout.specs.GroupLaws.{AreCodesOf}
-use Rattle.cla_packed.specs.Values.{Holds, IsTuple}
+use Rattle.cla_packed.specs.Values.{IsTuple}
 use Rattle.cla_packed.specs.Codes.{has}
 use Rattle.cla_packed.specs.Lists.{RisingFrom, first_of}
 use Rattle.cla_packed.specs.Offsets.{joined}
@@ -27,6 +27,7 @@ use Rattle.cla_layout.specs.Canonical.{HasKind, kind_at, IsCanonical}
 use Rattle.cla_packed.specs.Layouts.{part_of, layout_in, kinds_in}
 use Rattle.cla_packed_laws.proofs.Codes.{has_at, has_occurring, first_among, first_holds, occurs}
 use Rattle.std.proofs.Math.Nat.{mul-le-mul_left, le-mul_of_pos_right, mul_comm}
+use Rattle.cla_spec.specs.Bytes.{Holds}
 use Rattle.cla_packed_laws.proofs.Files.{width_parts}
 use Rattle.cla_packed_laws.proofs.Columns.{AreOrdered, columns_ordered, columns_again}
 

@@ -47,7 +47,8 @@ unfolding zeros zeros_file rest_code
 zeros_written = refl
 
 zeros_read : first_bad_field 8 47 1000 zeros_file ≡ None
-unfolding zeros_file whole_at number_at field_at refused_at checked_at then_at list_at as_at value_at different rest_code
+unfolding zeros_file whole_at number_at field_at refused_at checked_at then_at list_at as_at value_at different
+    rest_code
 zeros_read = refl
 
 -- ---- five hundred rows of 7, and five hundred of 9, as runs
@@ -74,7 +75,8 @@ unfolding halves halves_file rest_code
 halves_written = refl
 
 halves_read : first_bad_field 8 47 1000 halves_file ≡ None
-unfolding halves_file whole_at number_at field_at refused_at checked_at then_at list_at as_at value_at different rest_code
+unfolding halves_file whole_at number_at field_at refused_at checked_at then_at list_at as_at value_at different
+    rest_code
 halves_read = refl
 
 -- ---- two rows, 5 and -7, as they are
@@ -100,7 +102,8 @@ unfolding plain plain_file rest_code
 plain_written = refl
 
 plain_read : first_bad_field 8 47 1000 plain_file ≡ None
-unfolding plain_file whole_at number_at field_at refused_at checked_at then_at list_at as_at value_at different rest_code
+unfolding plain_file whole_at number_at field_at refused_at checked_at then_at list_at as_at value_at different
+    rest_code
 plain_read = refl
 
 plain_cut : cut_short 45 plain_file ≡ replicate 8 (Some (Field 0 names.Magic 0))
@@ -109,7 +112,8 @@ plain_cut : cut_short 45 plain_file ≡ replicate 8 (Some (Field 0 names.Magic 0
     Some (Field 1 names.Kind 20) ∷ replicate 4 (Some (Field 1 names.Width 21)) ++
     replicate 4 (Some (Field 1 names.Column 25)) ++ replicate 8 (Some (Field 1 names.Value 29)) ++
     replicate 8 (Some (Field 1 names.Value 37)) ++ []
-unfolding plain_file whole_at number_at field_at refused_at checked_at then_at list_at as_at value_at different rest_code
+unfolding plain_file whole_at number_at field_at refused_at checked_at then_at list_at as_at value_at different
+    rest_code
 plain_cut = refl
 
 plain_damaged : damaged plain_file ((0, 68) ∷ (8, 0) ∷ (11, 128) ∷ (12, 0) ∷ (11, 4) ∷ (16, 0) ∷ (16, 2) ∷ (
@@ -122,16 +126,19 @@ plain_damaged : damaged plain_file ((0, 68) ∷ (8, 0) ∷ (11, 128) ∷ (12, 0)
     Some (Field 0 names.Groups 16) ∷ Some (Field 1 names.Kind 20) ∷ Some (Field 1 names.Kind 20) ∷
     Some (Field 1 names.Width 21) ∷ Some (Field 1 names.Width 21) ∷ Some (Field 1 names.Column 25) ∷
     Some (Field 1 names.Value 29) ∷ Some (Field 1 names.Value 37) ∷ []
-unfolding plain_file whole_at number_at field_at refused_at checked_at then_at list_at as_at value_at different rest_code
+unfolding plain_file whole_at number_at field_at refused_at checked_at then_at list_at as_at value_at different
+    rest_code
 plain_damaged = refl
 
 plain_longer : first_bad_field 8 47 1000 (plain_file ++ 7 ∷ []) ≡ Some (Trailing 45)
-unfolding plain_file whole_at number_at field_at refused_at checked_at then_at list_at as_at value_at different rest_code
+unfolding plain_file whole_at number_at field_at refused_at checked_at then_at list_at as_at value_at different
+    rest_code
 plain_longer = refl
 
 plain_past : (first_bad_field 8 47 44 plain_file ≡ Some TooLong) × (first_bad_field 8 47 45 (plain_file ++ 7 ∷ [])
     ≡ Some TooLong)
-unfolding plain_file whole_at number_at field_at refused_at checked_at then_at list_at as_at value_at different rest_code
+unfolding plain_file whole_at number_at field_at refused_at checked_at then_at list_at as_at value_at different
+    rest_code
 plain_past = (refl, refl)
 
 -- ---- three rows of 5, as codes
@@ -157,7 +164,8 @@ unfolding fives fives_file rest_code
 fives_written = refl
 
 fives_read : first_bad_field 8 47 1000 fives_file ≡ None
-unfolding fives_file whole_at number_at field_at refused_at checked_at then_at list_at as_at value_at different rest_code
+unfolding fives_file whole_at number_at field_at refused_at checked_at then_at list_at as_at value_at different
+    rest_code
 fives_read = refl
 
 fives_cut : cut_short 44 fives_file ≡ replicate 8 (Some (Field 0 names.Magic 0))
@@ -167,22 +175,26 @@ fives_cut : cut_short 44 fives_file ≡ replicate 8 (Some (Field 0 names.Magic 0
     replicate 4 (Some (Field 1 names.Column 25)) ++ replicate 4 (Some (Field 1 names.Tuples 29)) ++
     replicate 8 (Some (Field 1 names.Value 33)) ++ Some (Field 1 names.Code 41) ∷
     Some (Field 1 names.Code 42) ∷ Some (Field 1 names.Code 43) ∷ []
-unfolding fives_file whole_at number_at field_at refused_at checked_at then_at list_at as_at value_at different rest_code
+unfolding fives_file whole_at number_at field_at refused_at checked_at then_at list_at as_at value_at different
+    rest_code
 fives_cut = refl
 
 fives_damaged : damaged fives_file ((29, 0) ∷ (29, 4) ∷ (38, 128) ∷ (40, 1) ∷ (41, 1) ∷ (43, 1) ∷ [])
     ≡ Some (Field 1 names.Tuples 29) ∷ Some (Field 1 names.Tuples 29) ∷ Some (Field 1 names.Value 33) ∷
     Some (Field 1 names.Value 33) ∷ Some (Field 1 names.Code 41) ∷ Some (Field 1 names.Code 43) ∷ []
-unfolding fives_file whole_at number_at field_at refused_at checked_at then_at list_at as_at value_at different rest_code
+unfolding fives_file whole_at number_at field_at refused_at checked_at then_at list_at as_at value_at different
+    rest_code
 fives_damaged = refl
 
 fives_longer : first_bad_field 8 47 1000 (fives_file ++ 7 ∷ []) ≡ Some (Trailing 44)
-unfolding fives_file whole_at number_at field_at refused_at checked_at then_at list_at as_at value_at different rest_code
+unfolding fives_file whole_at number_at field_at refused_at checked_at then_at list_at as_at value_at different
+    rest_code
 fives_longer = refl
 
 fives_past : (first_bad_field 8 47 43 fives_file ≡ Some TooLong) × (first_bad_field 8 47 44 (fives_file ++ 7 ∷ [])
     ≡ Some TooLong)
-unfolding fives_file whole_at number_at field_at refused_at checked_at then_at list_at as_at value_at different rest_code
+unfolding fives_file whole_at number_at field_at refused_at checked_at then_at list_at as_at value_at different
+    rest_code
 fives_past = (refl, refl)
 
 -- ---- two rows, 0 and 5, as offsets
@@ -208,7 +220,8 @@ unfolding listed listed_file rest_code
 listed_written = refl
 
 listed_read : first_bad_field 8 47 1000 listed_file ≡ None
-unfolding listed_file whole_at number_at field_at refused_at checked_at then_at list_at as_at value_at different rest_code
+unfolding listed_file whole_at number_at field_at refused_at checked_at then_at list_at as_at value_at different
+    rest_code
 listed_read = refl
 
 listed_cut : cut_short 46 listed_file ≡ replicate 8 (Some (Field 0 names.Magic 0))
@@ -218,7 +231,8 @@ listed_cut : cut_short 46 listed_file ≡ replicate 8 (Some (Field 0 names.Magic
     replicate 4 (Some (Field 1 names.Column 25)) ++ replicate 4 (Some (Field 1 names.Tuples 29)) ++
     Some (Field 1 names.Rest 33) ∷ replicate 8 (Some (Field 1 names.Value 34)) ++
     replicate 2 (Some (Field 1 names.Count 42)) ++ replicate 2 (Some (Field 1 names.Offset 44)) ++ []
-unfolding listed_file whole_at number_at field_at refused_at checked_at then_at list_at as_at value_at different rest_code
+unfolding listed_file whole_at number_at field_at refused_at checked_at then_at list_at as_at value_at different
+    rest_code
 listed_cut = refl
 
 listed_damaged : damaged listed_file ((29, 3) ∷ (33, 2) ∷ (34, 0) ∷ (42, 0) ∷ (42, 3) ∷ (42, 2) ∷ (44, 2) ∷ (
@@ -228,16 +242,19 @@ listed_damaged : damaged listed_file ((29, 3) ∷ (33, 2) ∷ (34, 0) ∷ (42, 0
     ≡ Some (Field 1 names.Tuples 29) ∷ Some (Field 1 names.Rest 33) ∷ Some (Field 1 names.Value 34) ∷
     Some (Field 1 names.Count 42) ∷ Some (Field 1 names.Count 42) ∷ Some (Field 1 names.Offset 46) ∷
     Some (Field 1 names.Offset 44) ∷ Some (Field 1 names.Cover 46) ∷ []
-unfolding listed_file whole_at number_at field_at refused_at checked_at then_at list_at as_at value_at different rest_code
+unfolding listed_file whole_at number_at field_at refused_at checked_at then_at list_at as_at value_at different
+    rest_code
 listed_damaged = refl
 
 listed_longer : first_bad_field 8 47 1000 (listed_file ++ 7 ∷ []) ≡ Some (Trailing 46)
-unfolding listed_file whole_at number_at field_at refused_at checked_at then_at list_at as_at value_at different rest_code
+unfolding listed_file whole_at number_at field_at refused_at checked_at then_at list_at as_at value_at different
+    rest_code
 listed_longer = refl
 
 listed_past : (first_bad_field 8 47 45 listed_file ≡ Some TooLong) × (first_bad_field 8 47 46 (listed_file ++ 7 ∷ [])
     ≡ Some TooLong)
-unfolding listed_file whole_at number_at field_at refused_at checked_at then_at list_at as_at value_at different rest_code
+unfolding listed_file whole_at number_at field_at refused_at checked_at then_at list_at as_at value_at different
+    rest_code
 listed_past = (refl, refl)
 
 -- ---- three rows, 5, 0 and 5, as runs

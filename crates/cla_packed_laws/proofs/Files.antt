@@ -3,14 +3,15 @@ use Rattle.std.proofs.Common.{◌≡◌, ℕ, ℤ, pos, zero, suc, ◌+◌, ◌*
 use Rattle.std.specs.Prelude.{nat_lt, nat_le, not, ◌&&◌, ◌||◌, ◌==◌}
 use Rattle.std.specs.List.{flat_map, list_all, range_with_len}
 use Rattle.std.proofs.lemmas.Bool.{ltb-true, leb-true, eqb-true, eq-eqb, and_parts}
+use Rattle.cla_spec.specs.Bytes.{Holds, bytes_of, past}
 use Rattle.cla_packed.specs.declared.fault.FieldName.TheVariants as names
 use Rattle.cla_packed.specs.declared.fault.PackFault.TheVariants.{TooLarge}
 use Rattle.cla_layout.specs.declared.kind.Kind.{Kind}
 use Rattle.cla_layout.specs.declared.kind.Kind.TheVariants as kinds
 use Rattle.cla_layout.specs.Kinds.{kind_number}
-use Rattle.cla_packed.specs.Fields.{past, bytes_of, field_at, refused_at, then_at, list_at, whole_at, EachIs}
+use Rattle.cla_packed.specs.Fields.{field_at, refused_at, then_at, list_at, whole_at, EachIs}
 use Rattle.cla_spec.specs.Numbers.{in_range}
-use Rattle.cla_packed.specs.Values.{Holds, tuple_bytes, tuples_at, IsTuple}
+use Rattle.cla_packed.specs.Values.{tuple_bytes, tuples_at, IsTuple}
 use Rattle.cla_packed.specs.Lists.{next_from}
 use Rattle.cla_packed.specs.Codes.{has}
 use Rattle.cla_packed.specs.Offsets.{offsets_at, offsets_bytes}

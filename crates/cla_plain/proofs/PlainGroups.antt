@@ -29,7 +29,8 @@ some_rows zero width values whole some = absurd (omega (arith, whole, some))
 some_rows (suc n) width values whole some = omega arith
 
 -- whole rows of values
-pub rows_whole : {X : Type 0} (width : ℕ) (values : List X) → AreRows width values → AreValues width (length values / width) (length values)
+pub rows_whole : {X : Type 0} (width : ℕ) (values : List X) → AreRows width values →
+    AreValues width (length values / width) (length values)
 rows_whole width values are =
     let whole : length values ≡ (length values / width) * width = omega (arith, are.whole, are.a_column) in
     record {
@@ -41,11 +42,13 @@ rows_whole width values are =
 
 -- the rows from row a to before row b
 pub rows_cut : (width a b : ℕ) (tuples : List (List ℤ)) → a < b → b ≤ length tuples →
-    AreRowsFrom a (b - a) width (range_with_len 0 (length tuples)) tuples (range_with_len 0 (length (take (b - a) (drop a tuples))))
+    AreRowsFrom a (b - a) width (range_with_len 0 (length tuples)) tuples
+    (range_with_len 0 (length (take (b - a) (drop a tuples))))
     (take (b - a) (drop a tuples))
 rows_cut width a b tuples some within =
     let cut = take (b - a) (drop a tuples) in
-    let count : length cut ≡ b - a = length-take-le (b - a) (drop a tuples) (omega (arith, length-drop a tuples, within)) in
+    let count : length cut ≡ b - a =
+    length-take-le (b - a) (drop a tuples) (omega (arith, length-drop a tuples, within)) in
     let new : (i : ℕ) → i < b - a → code_of (range_with_len 0 (length cut)) i ≡ i =
     (λ i row. code_is (length cut) i (omega (arith, row, count))) in
     let old : (i : ℕ) → i < b - a → code_of (range_with_len 0 (length tuples)) (a + i) ≡ a + i =
@@ -54,7 +57,8 @@ rows_cut width a b tuples some within =
       rows = rows_count (length cut) ∙ count;
       cells = λ i c row place.
           ap (λ (k : ℕ). value_of cut k c) (new i row)
-          ∙ ap (λ (tuple : List ℤ). at tuple c) (get_or-take (b - a) (drop a tuples) i [] row ∙ get_or-drop a tuples i [])
+          ∙ ap (λ (tuple : List ℤ). at tuple c) (get_or-take (b - a) (drop a tuples) i [] row
+          ∙ get_or-drop a tuples i [])
           ∙ ap (λ (k : ℕ). value_of tuples k c) (sym (old i row));
       alike = λ i j row other. (
         (λ same. omega (arith, same, new i row, new j other, old i row, old j other)),

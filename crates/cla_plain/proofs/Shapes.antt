@@ -18,7 +18,8 @@ whole_rows rows cols cells shaped =
     }
 
 -- and as many as the shape says
-pub rows_of_shape : {X : Type 0} (rows cols : ℕ) (cells : List X) → IsShaped rows cols cells → length cells / cols ≡ rows
+pub rows_of_shape : {X : Type 0} (rows cols : ℕ) (cells : List X) → IsShaped rows cols cells →
+    length cells / cols ≡ rows
 rows_of_shape rows cols cells shaped =
     let split : length cells ≡ rows * cols + 0 = omega (arith, shaped.count) in
     ap (λ (n : ℕ). n / cols) split ∙ div-mul-add rows cols 0 shaped.a_col

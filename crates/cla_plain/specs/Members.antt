@@ -9,7 +9,8 @@ use Rattle.cla_num.specs.declared.number.Number as number
 use Rattle.cla_layout.specs.Groups.{IsGroup}
 use Rattle.cla_plain.specs.declared.plain.Plain.{Plain}
 
-module _ {N : Type 0} {n : number.Ghosts N} {o : ord.Ghosts N} {e : partial_eq.Ghosts N} {p : partial_ord.Ghosts N} {h : hash.Ghosts N} where
+module _ {N : Type 0} {n : number.Ghosts N} {o : ord.Ghosts N} {e : partial_eq.Ghosts N} {p : partial_ord.Ghosts N}
+    {h : hash.Ghosts N} where
   abbrev pub plain_columns : Plain N n o e p h → ℕ
   plain_columns g = g.dictionary.width
 

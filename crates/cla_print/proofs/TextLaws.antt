@@ -52,7 +52,8 @@ rows_text-same rows cols e f same =
     (same_list (λ j. decimal_of (e i j)) (λ j. decimal_of (f i j)) cols (λ j col. ap decimal_of (same i j row col)))))
 
 -- the text of a group is that of the matrix for which it stands
-pub group_text : (width : ℕ) (codes : List ℕ) (tuples : List (List ℤ)) (m : Matrix) → GroupStandsFor width codes tuples m
+pub group_text : (width : ℕ) (codes : List ℕ) (tuples : List (List ℤ)) (m : Matrix) →
+    GroupStandsFor width codes tuples m
     → rows_text (length codes) width (cell_of codes tuples) ≡ matrix_text m
 group_text width codes tuples m stands =
     rw (stands.rows, stands.cols) (rows_text-same m.rows m.cols (cell_of codes tuples) (entry m) stands.entries)

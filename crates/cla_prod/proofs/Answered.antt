@@ -1,9 +1,9 @@
 -- From lines to the entries of products.
-use Rattle.std.proofs.Common.{◌≡◌, ℕ, ℤ, pos, ◌+◌, ◌*◌, ◌<◌, ◌≤◌, ◌*ℤ◌, min, max, List, Bool, true, false, not, length, map, Result, Ok, Err, cond, Some, None, refl, ap, subst, sym, ◌∙◌, arith}
+use Rattle.std.proofs.Common.{◌≡◌, ℕ, ℤ, pos, ◌*◌, ◌<◌, ◌≤◌, ◌*ℤ◌, min, max, List, Bool, true, false, not, length, map, Result, Ok, Err, cond, Some, None, refl, ap, subst, sym, ◌∙◌, arith}
 use Rattle.std.proofs.Math.Nat.{mul_comm}
 use Rattle.std.proofs.Math.IntN.{*ℤ_comm}
 use Rattle.cla_spec.specs.Numbers.{sum_to}
-use Rattle.cla_spec.specs.Matrix.{Matrix, IsShaped, entry, row_by_row}
+use Rattle.cla_spec.specs.Matrix.{Matrix, IsShaped, entry, row_by_row, most_cells}
 use Rattle.cla_spec.proofs.Entries.{row_by_row-same}
 use Rattle.cla_spec.proofs.Sums.{sum_to-same}
 use Rattle.cla_num.specs.Fault.{fault_of, exactly}
@@ -11,32 +11,26 @@ use Rattle.cla_num.specs.declared.fault.OpFault.{OpFault}
 use Rattle.cla_num.specs.declared.fault.Refused.{Refused}
 use Rattle.cla_num.specs.declared.fault.Refused.TheVariants.{Op, Memory}
 use Rattle.cla_num.proofs.Faults.{fault_of-same}
-use Rattle.cla_layout.specs.Groups.{at}
 use Rattle.cla_layout.specs.Layouts.{LayoutPart}
 use Rattle.cla_meaning.specs.Entries.{product_entry}
 use Rattle.cla_prod.specs.declared.lines.Lines.{Lines}
 use Rattle.cla_prod.specs.declared.numbers.Order.{Order}
 use Rattle.cla_prod.specs.declared.numbers.Order.TheVariants.{Rows, Columns, Mirrored}
 use Rattle.cla_prod.specs.Answers.{AnswersEntries}
-use Rattle.cla_prod.specs.Lines.{AreLines, entry_turned, cell_at, rows_in, cols_in, entry_by_lines, line_times, IsSquare}
-use Rattle.cla_prod.proofs.LinesRead.{some_items}
+use Rattle.cla_prod.specs.Lines.{entry_turned, cell_at, rows_in, cols_in, entry_by_lines, item_times, line_item, IsSquare}
 use Rattle.cla_prod.proofs.LinesWritten.{AreWritten}
 
 -- the matrix whose lines the products are
-pub lines_shape : {X : Type 0} (bits : ℕ) (turned : Bool) (parts : List LayoutPart) (lines : Lines)
-    (items products : ℕ) (order : Order) (cells : List X)
-    → AreLines bits turned parts lines items products → length cells ≡ lines.count * lines.outer
+pub lines_shape : {X : Type 0} (lines : Lines) (order : Order) (cells : List X) → 1 ≤ lines.count → 1 ≤ lines.outer
+    → lines.count * lines.outer ≤ most_cells → length cells ≡ lines.count * lines.outer
     → IsShaped (rows_in order lines) (cols_in order lines) cells
-lines_shape bits turned parts lines items products Rows cells are long =
-    let some = some_items bits turned lines.outer lines.inner parts are.whole in
-    record { a_row = are.a_line; a_col = some.0; count = long; few = are.few }
-lines_shape bits turned parts lines items products Columns cells are long =
-    let some = some_items bits turned lines.outer lines.inner parts are.whole in
+lines_shape lines Rows cells a_line some few long =
+    record { a_row = a_line; a_col = some; count = long; few = few }
+lines_shape lines Columns cells a_line some few long =
     let turn = mul_comm lines.outer lines.count in
-    record { a_row = some.0; a_col = are.a_line; count = long ∙ sym turn; few = omega (arith, are.few, turn) }
-lines_shape bits turned parts lines items products Mirrored cells are long =
-    let some = some_items bits turned lines.outer lines.inner parts are.whole in
-    record { a_row = are.a_line; a_col = some.0; count = long; few = are.few }
+    record { a_row = some; a_col = a_line; count = long ∙ sym turn; few = omega (arith, few, turn) }
+lines_shape lines Mirrored cells a_line some few long =
+    record { a_row = a_line; a_col = some; count = long; few = few }
 
 -- a cell is the item of its line
 pub cell_is : (order : Order) (lines : Lines) (f : ℕ → ℕ → ℤ) (cells : List ℤ) → IsSquare order
@@ -112,15 +106,10 @@ fault_named bits order lines f cells fault r w row_is col_is some square are mee
     (subst (λ (k : ℕ). MeetsFault bits order cells fault r k) col_is meets))
 
 -- a table times the columns of a matrix
-pub right_is : (flipped : Bool) (parts : List LayoutPart) (lines : Lines) (xs : List ℤ) (b : Matrix) → lines.inner
-    ≡ b.rows
-    → ((j i : ℕ) → j < b.cols → i < b.rows → at xs (j * b.rows + i) ≡ entry b i j) → (i j : ℕ) → j < b.cols
-    → line_times flipped parts lines xs j i ≡ product_entry b.rows (entry_turned flipped parts) (entry b) i j
-right_is flipped parts lines xs b inner columns i j col =
-    ap (λ (n : ℕ). sum_to (λ k. entry_turned flipped parts i k *ℤ at xs (j * n + k)) n) inner
-    ∙ sum_to-same (λ k. entry_turned flipped parts i k *ℤ at xs (j * b.rows + k))
-    (λ k. entry_turned flipped parts i k *ℤ entry b k j) b.rows
-    (λ k lt. ap (λ (z : ℤ). entry_turned flipped parts i k *ℤ z) (columns j k col lt))
+pub right_is : (flipped : Bool) (parts : List LayoutPart) (b : Matrix) (inner i j : ℕ) → inner ≡ b.rows
+    → item_times flipped parts (line_item Columns b j) inner i
+    ≡ product_entry b.rows (entry_turned flipped parts) (entry b) i j
+right_is flipped parts b inner i j same = ap (λ (n : ℕ). sum_to (λ k. entry_turned flipped parts i k *ℤ entry b k j) n) same
 
 -- an entry of the transpose of the transpose
 turned_back : (flipped : Bool) (parts : List LayoutPart) (i k : ℕ) → entry_turned (not flipped) parts i k
@@ -129,10 +118,11 @@ turned_back true parts i k = refl
 turned_back false parts i k = refl
 
 -- the rows of a matrix times a table
-pub left_is : (flipped : Bool) (parts : List LayoutPart) (lines : Lines) (a : Matrix) → lines.inner ≡ a.cols → (i j : ℕ)
-    → line_times (not flipped) parts lines a.cells i j ≡ product_entry a.cols (entry a) (entry_turned flipped parts) i j
-left_is flipped parts lines a inner i j =
-    ap (λ (n : ℕ). sum_to (λ k. entry_turned (not flipped) parts j k *ℤ at a.cells (i * n + k)) n) inner
+pub left_is : (flipped : Bool) (parts : List LayoutPart) (a : Matrix) (inner i j : ℕ) → inner ≡ a.cols
+    → item_times (not flipped) parts (line_item Rows a i) inner j
+    ≡ product_entry a.cols (entry a) (entry_turned flipped parts) i j
+left_is flipped parts a inner i j same =
+    ap (λ (n : ℕ). sum_to (λ k. entry_turned (not flipped) parts j k *ℤ entry a i k) n) same
     ∙ sum_to-same (λ k. entry_turned (not flipped) parts j k *ℤ entry a i k)
     (λ k. entry a i k *ℤ entry_turned flipped parts k j) a.cols
     (λ k lt. *ℤ_comm (entry_turned (not flipped) parts j k) (entry a i k) ∙ ap (λ (z : ℤ). entry a i k *ℤ z)

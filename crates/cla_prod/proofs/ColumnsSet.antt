@@ -16,7 +16,7 @@ use Rattle.cla_layout.proofs.Wholes.{own_column, own_column_within, only_part, s
 use Rattle.cla_prod.specs.Sums.{AreSet, AreGathered, columns_from, values_from}
 
 -- two columns that rise are different
-rising_other : (columns : List ℕ) (c d : ℕ) → Rise columns → c < d → d < length columns → column_at columns c
+pub rising_other : (columns : List ℕ) (c d : ℕ) → Rise columns → c < d → d < length columns → column_at columns c
     ≡ column_at columns d → ⊥
 rising_other columns c d rising before there same = (let less = rising c d before there in absurd
     (omega (arith, less, same)))
@@ -138,7 +138,7 @@ pub record AreGatheredTo (from rows q : ℕ) (parts : List LayoutPart) (item : �
   pub zeros : (p j : ℕ) → q ≤ p → p < length parts → has_column (part_at parts p) j ≡ true → at sums j ≡ pos 0
 
 -- a column of another part is none of a part's
-other_part : (bits rows cols : ℕ) (parts : List LayoutPart) (p q j : ℕ) → IsWhole bits (layout_with rows cols parts)
+pub other_part : (bits rows cols : ℕ) (parts : List LayoutPart) (p q j : ℕ) → IsWhole bits (layout_with rows cols parts)
     → p < length parts → q < length parts → (p ≡ q → ⊥) → has_column (part_at parts p) j ≡ true
     → (c : ℕ) → c < length (part_at parts q).columns → column_at (part_at parts q).columns c ≡ j → ⊥
 other_part bits rows cols parts p q j whole p_there q_there other has c place same =

@@ -1,11 +1,11 @@
 -- Tables that are made dense.
-use Rattle.std.proofs.Common.{◌≡◌, ℕ, ℤ, ◌+◌, ◌*◌, ◌<◌, ◌≤◌, ◌*ℤ◌, List, length, take, get_or, Bool, true, false, cond, refl, ap, subst, sym, ◌∙◌, arith}
+use Rattle.std.proofs.Common.{◌≡◌, ℕ, ℤ, ◌+◌, ◌*◌, ◌<◌, ◌≤◌, ◌*ℤ◌, List, length, take, get_or, Bool, true, false, not, cond, refl, ap, subst, sym, ◌∙◌, arith}
 use Rattle.cla_spec.specs.Numbers.{sum_to}
 use Rattle.cla_spec.specs.Matrix.{Matrix, entry, most_cells}
 use Rattle.cla_spec.proofs.Entries.{row_by_row-entry}
 use Rattle.cla_spec.proofs.Sums.{sum_to-same}
 use Rattle.cla_layout.specs.Groups.{IsGroup}
-use Rattle.cla_layout.specs.Layouts.{Layout, LayoutPart, IsPart, IsWhole, part_at, matrix_in, matrix_as, entry_in, entry_as}
+use Rattle.cla_layout.specs.Layouts.{Layout, LayoutPart, IsPart, IsWhole, layout_with, part_at, matrix_in, matrix_as, entry_in, entry_as}
 use Rattle.cla_layout.specs.Values.{values_of}
 use Rattle.cla_layout.proofs.Matrices.{entry_matrix_in}
 use Rattle.cla_layout.proofs.PartValues.{values_more, values_few}
@@ -15,6 +15,7 @@ use Rattle.cla_coded.specs.Parts.{part_of, parts_of}
 use Rattle.cla_coded.specs.Tables.{TableOf, layout_of}
 use Rattle.cla_coded.proofs.Outlines.{part_of_item, parts_count}
 use Rattle.cla_meaning.specs.Entries.{product_entry}
+use Rattle.cla_prod.specs.Lines.{base_for}
 
 pub dense_rows : (flipped : Bool) (layout : Layout) → (matrix_as flipped layout).rows
     ≡ cond flipped layout.cols layout.rows
@@ -65,9 +66,10 @@ dense_left flipped layout m y is i j row =
     (rw rows at row) lt))
 
 -- a table that isn't flipped
-pub plain_dense : (flipped : Bool) (layout : Layout) → flipped ≡ false → matrix_as flipped layout ≡ matrix_in layout
-plain_dense true layout plain = absurd (cc plain)
-plain_dense false layout plain = refl
+pub plain_shape : (flipped : Bool) (rows cols : ℕ) → flipped ≡ false
+    → (cond flipped cols rows ≡ rows) × (cond flipped rows cols ≡ cols)
+plain_shape true rows cols plain = absurd (cc plain)
+plain_shape false rows cols plain = (refl, refl)
 
 pub plain_entry : (flipped : Bool) (layout : Layout) (i j : ℕ) → flipped ≡ false → entry_in layout.parts i j
     ≡ entry_as flipped layout i j
@@ -102,3 +104,24 @@ value_step {G} bits width codes dictionary m items q item count t w laws whole s
       (let few = values_few bits (layout_of codes dictionary m) (q + 1) whole in omega
           (arith, more, few, whole.few)),
     )
+
+-- the base of a table that is multiplied with columns, and with rows
+pub base_right : (bits : ℕ) (flipped : Bool) (rows cols outer inner : ℕ) (parts : List LayoutPart)
+    → IsWhole bits (layout_with rows cols parts) → outer ≡ cond flipped cols rows → inner ≡ cond flipped rows cols
+    → IsWhole bits (base_for flipped outer inner parts)
+base_right bits true rows cols outer inner parts whole o i =
+    subst (λ (r : ℕ). IsWhole bits (layout_with r outer parts)) (sym i)
+    (subst (λ (k : ℕ). IsWhole bits (layout_with rows k parts)) (sym o) whole)
+base_right bits false rows cols outer inner parts whole o i =
+    subst (λ (r : ℕ). IsWhole bits (layout_with r inner parts)) (sym o)
+    (subst (λ (k : ℕ). IsWhole bits (layout_with rows k parts)) (sym i) whole)
+
+pub base_left : (bits : ℕ) (flipped : Bool) (rows cols outer inner : ℕ) (parts : List LayoutPart)
+    → IsWhole bits (layout_with rows cols parts) → outer ≡ cond flipped rows cols → inner ≡ cond flipped cols rows
+    → IsWhole bits (base_for (not flipped) outer inner parts)
+base_left bits true rows cols outer inner parts whole o i =
+    subst (λ (r : ℕ). IsWhole bits (layout_with r inner parts)) (sym o)
+    (subst (λ (k : ℕ). IsWhole bits (layout_with rows k parts)) (sym i) whole)
+base_left bits false rows cols outer inner parts whole o i =
+    subst (λ (r : ℕ). IsWhole bits (layout_with r outer parts)) (sym i)
+    (subst (λ (k : ℕ). IsWhole bits (layout_with rows k parts)) (sym o) whole)

@@ -1,21 +1,17 @@
 -- The first of exact entries that isn't in range, row by row.
-use Rattle.std.proofs.Common.{◌≡◌, ℕ, ℤ, pos, ◌+◌, ◌*◌, ◌/◌, ◌%◌, ◌<◌, ◌≤◌, Some, None, false, true, List, length, map, sym, ◌∙◌, arith, inl, inr}
-use Rattle.std.proofs.Math.Nat.{div-lt_iff_lt-mul}
+use Rattle.std.proofs.Common.{◌≡◌, ℕ, ℤ, pos, ◌+◌, ◌*◌, ◌/◌, ◌%◌, ◌<◌, ◌≤◌, Option, Some, None, false, true, List, length, map, refl, ap, sym, ◌∙◌, arith, inl, inr}
 use Rattle.std.proofs.lemmas.Bool.{cases_lt}
 use Rattle.std.proofs.lemmas.List.{ext_get_or}
-use Rattle.std.proofs.lemmas.Nat.{div-mul-add, mod-mul-add, div-add-mod'}
+use Rattle.std.proofs.lemmas.Nat.{div-mul-add, mod-mul-add}
 use Rattle.cla_spec.specs.Numbers.{InRange}
 use Rattle.cla_spec.specs.Matrix.{row_by_row}
 use Rattle.cla_spec.proofs.Entries.{cell_within, row_by_row-at, row_by_row-count}
+use Rattle.cla_num.specs.declared.fault.OpFault.{OpFault}
 use Rattle.cla_num.specs.declared.fault.What.TheVariants.{Range}
-use Rattle.cla_num.specs.Fault.{fault_at, fault_of, exactly}
+use Rattle.cla_num.specs.Fault.{fault_of, exactly}
 use Rattle.cla_num.proofs.Faults.{fault_of-none, fault_of-first}
-use Rattle.cla_layout.specs.Groups.{at}
 use Rattle.cla_layout.proofs.Tuples.{item_holds}
-
--- the row and the column of a place
-pub row_of : (rows cols p : ℕ) → 1 ≤ cols → p < rows * cols → p / cols < rows
-row_of rows cols p some there = (div-lt_iff_lt-mul some).1 there
+use Rattle.cla_prod.specs.Lines.{AreNumbers}
 
 -- the first p entries, row by row, are in range
 abbrev pub AreInRange : ℕ → ℕ → (ℕ → ℕ → ℤ) → ℕ → Type 0
@@ -29,25 +25,27 @@ all_in_range bits rows cols exact some all =
     (let here = all (i * cols + j) (cell_within rows cols i j row col) in out
     (rw (div-mul-add i cols j col, mod-mul-add i cols j col) at here)))
 
--- the entry in place p is the first one
-pub first_out : (bits rows cols : ℕ) (exact : ℕ → ℕ → ℤ) (p : ℕ) → 1 ≤ cols → p < rows * cols
-    → AreInRange bits cols exact p
-    → (InRange bits (exact (p / cols) (p % cols)) → ⊥)
-    → fault_of bits rows cols (exactly exact) ≡ Some (fault_at cols p (Range (exact (p / cols) (p % cols))))
-first_out bits rows cols exact p some there before out =
+-- the fault of an entry that isn't in range
+abbrev pub found_at : ℕ → ℕ → ℤ → Option OpFault
+found_at i j v = Some (record { op = 0; row = i + 1; col = j + 1; what = Range v })
+
+-- the entry in row i and column j is the first one
+pub first_out : (bits rows cols : ℕ) (exact : ℕ → ℕ → ℤ) (i j : ℕ) → 1 ≤ cols → i < rows → j < cols
+    → AreInRange bits cols exact (i * cols + j) → (InRange bits (exact i j) → ⊥)
+    → fault_of bits rows cols (exactly exact) ≡ found_at i j (exact i j)
+first_out bits rows cols exact i j some row col before out =
+    let p = i * cols + j in
     fault_of-first bits rows cols exact p some (record {
-      reached = (p / cols, p % cols, row_of rows cols p some there, omega (arith, some), div-add-mod' p cols, out);
-      least = λ i j row col fails. elim (cases_lt (i * cols + j) p) [
+      reached = (i, j, row, col, refl, out);
+      least = λ r c there here fails. elim (cases_lt (r * cols + c) p) [
         | inl early ↦
-            (let here = before (i * cols + j) early in absurd (fails (rw
-            (div-mul-add i cols j col, mod-mul-add i cols j col) at here)))
+            (let ranged = before (r * cols + c) early in absurd (fails (rw
+            (div-mul-add r cols c here, mod-mul-add r cols c here) at ranged)))
         | inr late ↦ late
       ];
     })
-
--- the first p numbers, row by row, are the exact entries
-abbrev pub AreNumbers : {N : Type 0} → (N → ℤ) → ℕ → (ℕ → ℕ → ℤ) → ℕ → List N → Type 0
-AreNumbers value cols exact p numbers = (q : ℕ) → q < p → at (map value numbers) q ≡ exact (q / cols) (q % cols)
+    ∙ ap (λ (r : ℕ). found_at r (p % cols) (exact r (p % cols))) (div-mul-add i cols j col)
+    ∙ ap (λ (c : ℕ). found_at i c (exact i c)) (mod-mul-add i cols j col)
 
 -- so these are in range
 pub numbers_in_range : {N : Type 0} (bits : ℕ) (value : N → ℤ) → ((x : N) → InRange bits (value x)) → (cols : ℕ)

@@ -1,7 +1,7 @@
 //! Tables times the lines of a matrix.
 
-ghost use Rattle.std.specs.Prelude.{◌≡◌, ◌<◌, ◌+◌, ◌*◌, ℕ, pos, length, map, IfOk};
-ghost use Rattle.cla_spec.specs.Matrix.{IsShaped, entry};
+ghost use Rattle.std.specs.Prelude.{◌≡◌, ◌<◌, ◌+◌, ◌*◌, ℕ, pos, length, map};
+ghost use Rattle.cla_spec.specs.Matrix.{entry};
 ghost use Rattle.cla_num.specs.Bits.{IsSupported};
 ghost use Rattle.cla_num.specs.Counts.{AreBelow, kernel_bound};
 ghost use Rattle.cla_layout.specs.Groups.{at};
@@ -10,53 +10,88 @@ ghost use Rattle.cla_layout.specs.Values.{values_of};
 ghost use Rattle.cla_coded.specs.Parts.{parts_of};
 ghost use Rattle.cla_meaning.specs.Counts.{HasMults};
 ghost use Rattle.cla_prod.specs.Sums.{HasTuplesUpTo, line_bound};
-ghost use Rattle.cla_prod.specs.Lines.{AreLines, base_for, item_times, line_times};
+ghost use Rattle.cla_prod.specs.Lines.{AreLines, base_for, copied_in, item_times, line_times};
 
 use crate::gathers::times_base;
+use crate::numbers::Order;
 use crate::scatters::base_times;
 use cla_coded::Part;
 use cla_group::Group;
-use cla_num::{Dense, Memory, Meter, Number, Wide};
-use std::alloc::Global;
+use cla_num::{Dense, Meter, Number, Wide};
 
-/// Lines of a matrix that a table is multiplied with: how many there are, how many items each has, and how
-/// many each product has.
+/// How a base is multiplied with the lines of a matrix: whether it is turned, whether the lines are the
+/// matrix's rows or its columns, how many there are, how many items each has, and how many each product has.
 #[derive(Clone, Copy, Debug)]
 pub struct Lines {
+    pub turned: bool,
+    pub order: Order,
     pub count: u32,
     pub inner: u32,
     pub outer: u32,
 }
 
-/// The base that has these parts, or its transpose where `turned`, times each line of `items`. `exact`
-/// begins with zeros and gets the products, one after the other. `scratch` has an item for each tuple of
-/// a part.
+/// The base that has these parts, or its transpose where it is turned, times each line of `m`. `exact`
+/// begins with zeros and gets the products, one after the other. `column` has an item for each that is
+/// copied of a line, and `scratch` one for each tuple of a part.
 pub(crate) fn times_lines<N: Number, G: Group<N>>(
     parts: &[Part<G>],
-    turned: bool,
+    m: &Dense<N>,
     lines: Lines,
-    items: &[N],
+    column: &mut [N],
     scratch: &mut [Wide],
     exact: &mut [Wide],
     meter: &mut Meter,
 )
     requires bits { IsSupported N.BITS }
-    requires lines { let parts = parts_of G.codes G.dictionary parts.now in
-        AreLines N.BITS turned parts lines (length items.now) (length exact.old) }
+    requires lines { AreLines N.BITS (parts_of G.codes G.dictionary parts.now) lines m.now (length exact.old) }
+    requires column { length column.old ≡ copied_in lines.order m.now }
     requires scratch { HasTuplesUpTo (length scratch.old) (parts_of G.codes G.dictionary parts.now) }
     requires zeros { (p : ℕ) → p < length exact.old → at exact.old p ≡ pos 0 }
     requires room { AreBelow kernel_bound meter.old }
     ensures products { let parts = parts_of G.codes G.dictionary parts.now in
         (l i : ℕ) → l < lines.count → i < lines.outer →
-        at exact.new (l * lines.outer + i) ≡ line_times turned parts lines (map N.value items.now) l i }
+        at exact.new (l * lines.outer + i) ≡ line_times parts lines m.now l i }
     ensures counts { HasMults (lines.count * values_of (parts_of G.codes G.dictionary parts.now)) meter.old meter.new }
 {
-    let (inner, outer) = (lines.inner as usize, lines.outer as usize);
+    let outer = lines.outer as usize;
     for l in 0..lines.count {
-        let l = l as usize;
-        let line = &items[l * inner..(l + 1) * inner];
-        let product = &mut exact[l * outer..(l + 1) * outer];
-        times_line(parts, turned, line, scratch, product, meter);
+        let product = &mut exact[l as usize * outer..(l as usize + 1) * outer];
+        times_line_of(parts, m, lines, l, column, scratch, product, meter);
+    }
+}
+
+// The base, or its transpose, times line l. Only a line whose items stand apart is copied.
+fn times_line_of<N: Number, G: Group<N>>(
+    parts: &[Part<G>],
+    m: &Dense<N>,
+    lines: Lines,
+    l: u32,
+    column: &mut [N],
+    scratch: &mut [Wide],
+    product: &mut [Wide],
+    meter: &mut Meter,
+)
+    requires bits { IsSupported N.BITS }
+    requires lines { let parts = parts_of G.codes G.dictionary parts.now in
+        AreLines N.BITS parts lines m.now (lines.count * lines.outer) }
+    requires line { l < lines.count }
+    requires column { length column.old ≡ copied_in lines.order m.now }
+    requires scratch { HasTuplesUpTo (length scratch.old) (parts_of G.codes G.dictionary parts.now) }
+    requires product { length product.old ≡ lines.outer }
+    requires zeros { (i : ℕ) → i < length product.old → at product.old i ≡ pos 0 }
+    requires room { AreBelow line_bound meter.old }
+    ensures product { let parts = parts_of G.codes G.dictionary parts.now in
+        (i : ℕ) → i < lines.outer → at product.new i ≡ line_times parts lines m.now l i }
+    ensures counts { HasMults (values_of (parts_of G.codes G.dictionary parts.now)) meter.old meter.new }
+{
+    let cells = m.cells();
+    if column.is_empty() {
+        let inner = lines.inner as usize;
+        let line = &cells[l as usize * inner..(l as usize + 1) * inner];
+        times_line(parts, lines.turned, line, scratch, product, meter);
+    } else {
+        copy_column(m, l, column);
+        times_line(parts, lines.turned, column, scratch, product, meter);
     }
 }
 
@@ -87,6 +122,16 @@ fn times_line<N: Number, G: Group<N>>(
     }
 }
 
+/// How many items are copied of each line: all of a column, unless there is only one, and none of a row.
+pub(crate) fn copied<N: Number>(m: &Dense<N>, order: Order) -> u32
+    ensures { result ≡ copied_in order m.now }
+{
+    match order {
+        Order::Columns => { if m.cols() == 1 { 0 } else { m.rows() } }
+        Order::Rows | Order::Mirrored => 0,
+    }
+}
+
 /// The most tuples that a part has.
 pub(crate) fn most_tuples<N: Number, G: Group<N>>(parts: &[Part<G>]) -> u32
     ensures { HasTuplesUpTo result (parts_of G.codes G.dictionary parts.now) }
@@ -96,31 +141,6 @@ pub(crate) fn most_tuples<N: Number, G: Group<N>>(parts: &[Part<G>]) -> u32
         most = part.group.tuples().max(most);
     }
     most
-}
-
-/// The cells of a matrix, column by column.
-pub(crate) fn columns_of<N: Number>(alloc: Global, m: &Dense<N>) -> Result<Vec<N>, Memory>
-    ensures shape { IfOk result (λ columns. IsShaped m.now.cols m.now.rows columns.items) }
-    ensures entries { IfOk result (λ columns. (j i : ℕ) → j < m.now.cols → i < m.now.rows →
-        at (map N.value columns.items) (j * m.now.rows + i) ≡ entry m.now i j) }
-{
-    let cells = m.cells();
-    let mut columns = Vec::from_elem(alloc, cells[0], cells.len())?;
-    copy_columns(m, &mut columns);
-    Ok(columns)
-}
-
-// Copies the columns of a matrix, one after the other.
-fn copy_columns<N: Number>(m: &Dense<N>, columns: &mut [N])
-    requires { length columns.old ≡ m.now.cols * m.now.rows }
-    ensures { (j i : ℕ) → j < m.now.cols → i < m.now.rows →
-        at (map N.value columns.new) (j * m.now.rows + i) ≡ entry m.now i j }
-{
-    let rows = m.rows() as usize;
-    for j in 0..m.cols() {
-        let first = j as usize * rows;
-        copy_column(m, j, &mut columns[first..first + rows]);
-    }
 }
 
 // Copies one column.

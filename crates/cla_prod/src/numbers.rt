@@ -1,10 +1,10 @@
 //! From exact cells to numbers.
 
-ghost use Rattle.std.specs.Prelude.{◌≡◌, ◌<◌, ◌*◌, ◌^◌, length, map, Some, None, MatchResult};
+ghost use Rattle.std.specs.Prelude.{◌≡◌, ◌<◌, ◌+◌, ◌*◌, ◌^◌, length, map, Some, None, MatchResult};
 ghost use Rattle.cla_spec.specs.Matrix.{IsShaped, row_by_row};
 ghost use Rattle.cla_num.specs.Bits.{IsSupported};
 ghost use Rattle.cla_num.specs.Fault.{exactly, fault_of};
-ghost use Rattle.cla_prod.specs.Lines.{place_in, cell_at, IsSquare};
+ghost use Rattle.cla_prod.specs.Lines.{place_in, cell_at, IsSquare, AreNumbers};
 
 use cla_num::{Number, OpFault, What, Wide};
 
@@ -50,8 +50,32 @@ pub(crate) fn numbers_of<N: Number>(
         MatchResult result (λ _. (map N.value numbers.new ≡ row_by_row rows cols exact) × (first ≡ None))
         (λ fault. first ≡ Some fault) }
 {
-    for p in 0..rows * cols {
-        let (i, j) = (p / cols, p % cols);
+    for i in 0..rows {
+        numbers_of_row(cells, order, rows, cols, i, numbers)?;
+    }
+    Ok(())
+}
+
+// The numbers of row i, or the fault of the first cell that isn't in range. The rows before it are done.
+fn numbers_of_row<N: Number>(
+    cells: &[Wide],
+    order: Order,
+    rows: u32,
+    cols: u32,
+    i: u32,
+    numbers: &mut [N],
+) -> Result<(), OpFault>
+    requires bits { IsSupported N.BITS }
+    requires shape { IsShaped rows cols cells.now }
+    requires square { IsSquare order rows cols }
+    requires numbers { length numbers.old ≡ rows * cols }
+    requires row { i < rows }
+    requires before { AreNumbers N.value cols (cell_at order rows cols cells.now) (i * cols) numbers.old }
+    ensures { let exact = cell_at order rows cols cells.now in
+        MatchResult result (λ _. AreNumbers N.value cols exact ((i + 1) * cols) numbers.new)
+        (λ fault. fault_of N.BITS rows cols (exactly exact) ≡ Some fault) }
+{
+    for j in 0..cols {
         let exact = cells[place(order, rows, cols, i, j)];
         let Some(number) = N::narrow(exact) else {
             return Err(OpFault {
@@ -61,7 +85,7 @@ pub(crate) fn numbers_of<N: Number>(
                 what: What::Range { value: exact },
             });
         };
-        numbers[p as usize] = number;
+        numbers[place(Order::Rows, rows, cols, i, j)] = number;
     }
     Ok(())
 }

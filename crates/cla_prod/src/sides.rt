@@ -1,6 +1,6 @@
 //! Products of a table and a dense matrix, from either side.
 
-ghost use Rattle.std.specs.Prelude.{◌≡◌, ◌≤◌, ◌*◌, length, map};
+ghost use Rattle.std.specs.Prelude.{◌≡◌, ◌≤◌, ◌*◌};
 ghost use Rattle.cla_spec.specs.Matrix.{most_cells, entry};
 ghost use Rattle.cla_num.specs.Bits.{IsSupported};
 ghost use Rattle.cla_num.specs.Counts.{AreBelow, kernel_bound};
@@ -11,7 +11,7 @@ ghost use Rattle.cla_meaning.specs.Entries.{product_entry};
 ghost use Rattle.cla_prod.specs.Answers.{AnswersEntries, CountsMults};
 ghost use Rattle.cla_prod.specs.Lines.{AreLines, rows_in, cols_in, entry_by_lines, line_times, IsSquare};
 
-use crate::lines::{Lines, columns_of, most_tuples, times_lines};
+use crate::lines::{Lines, copied, most_tuples, times_lines};
 use crate::numbers::{Order, numbers_of};
 use cla_coded::{Part, Table};
 use cla_group::Group;
@@ -26,8 +26,8 @@ use std::alloc::Global;
 /// tuple and multiplies after. So it makes as many multiplications as the dictionaries have values for each
 /// column of `b`, and one scatter, or one gather, for each column and group.
 ///
-/// All buffers are taken first: the exact and the final entries, the columns of `b`, and one item for each
-/// tuple of a group.
+/// All buffers are taken first: the exact and the final entries, one item for each tuple of a group, and one
+/// column of `b` where it has several.
 pub fn right<N: Number, G: Group<N>>(
     alloc: Global,
     a: &Table<N, G>,
@@ -43,23 +43,14 @@ pub fn right<N: Number, G: Group<N>>(
     ensures counts { let values = values_of (parts_of G.codes G.dictionary a.now.parts) in
         CountsMults (values * b.now.cols) result meter.old meter.new }
 {
-    let Ok(columns) = columns_of(alloc, b) else {
-        return Err(Refused::Memory);
-    };
     let lines = Lines {
+        turned: a.flipped(),
+        order: Order::Columns,
         count: b.cols(),
         inner: b.rows(),
         outer: a.rows(),
     };
-    product_by_lines(
-        alloc,
-        a.parts(),
-        a.flipped(),
-        lines,
-        &columns,
-        Order::Columns,
-        meter,
-    )
+    product_by_lines(alloc, a.parts(), b, lines, meter)
 }
 
 /// The product of a dense matrix and a table. Refused exactly where an exact entry isn't in range, at the
@@ -87,66 +78,71 @@ pub fn left<N: Number, G: Group<N>>(
         CountsMults (values * a.now.rows) result meter.old meter.new }
 {
     let lines = Lines {
+        turned: !b.flipped(),
+        order: Order::Rows,
         count: a.rows(),
         inner: a.cols(),
         outer: b.cols(),
     };
-    product_by_lines(
-        alloc,
-        b.parts(),
-        !b.flipped(),
-        lines,
-        a.cells(),
-        Order::Rows,
-        meter,
-    )
+    product_by_lines(alloc, b.parts(), a, lines, meter)
 }
 
-// The matrix whose rows, or columns, are the products of a base, or of its transpose, and these lines.
+// The matrix whose rows, or columns, are the products of a base, or of its transpose, and the rows, or
+// columns, of `m`.
 fn product_by_lines<N: Number, G: Group<N>>(
     alloc: Global,
     parts: &[Part<G>],
-    turned: bool,
+    m: &Dense<N>,
     lines: Lines,
-    items: &[N],
-    order: Order,
     meter: &mut Meter,
 ) -> Result<Dense<N>, Refused>
     requires bits { IsSupported N.BITS }
     requires lines { let parts = parts_of G.codes G.dictionary parts.now in
-        AreLines N.BITS turned parts lines (length items.now) (lines.count * lines.outer) }
-    requires square { IsSquare order (rows_in order lines) (cols_in order lines) }
+        AreLines N.BITS parts lines m.now (lines.count * lines.outer) }
+    requires square { IsSquare lines.order (rows_in lines.order lines) (cols_in lines.order lines) }
     requires room { AreBelow kernel_bound meter.old }
-    ensures product { let parts = parts_of G.codes G.dictionary parts.now in
-        let exact = entry_by_lines order (line_times turned parts lines (map N.value items.now)) in
-        AnswersEntries N.BITS (rows_in order lines) (cols_in order lines) exact result }
+    ensures product { let exact = entry_by_lines lines.order (line_times (parts_of G.codes G.dictionary parts.now) lines m.now) in
+        AnswersEntries N.BITS (rows_in lines.order lines) (cols_in lines.order lines) exact result }
     ensures counts { let values = values_of (parts_of G.codes G.dictionary parts.now) in
         CountsMults (values * lines.count) result meter.old meter.new }
+    ensures a_line { 1 ≤ lines.count }
 {
+    let first = m.cells()[0];
     let count = lines.count as usize * lines.outer as usize;
+    let Ok(mut column) = Vec::from_elem(alloc, first, copied(m, lines.order) as usize) else {
+        return Err(Refused::Memory);
+    };
     let Ok(mut scratch) = Vec::from_elem(alloc, Wide::zero(), most_tuples(parts) as usize) else {
         return Err(Refused::Memory);
     };
     let Ok(mut exact) = Vec::from_elem(alloc, Wide::zero(), count) else {
         return Err(Refused::Memory);
     };
-    let Ok(mut numbers) = Vec::from_elem(alloc, items[0], count) else {
+    let Ok(mut numbers) = Vec::from_elem(alloc, first, count) else {
         return Err(Refused::Memory);
     };
-    times_lines(parts, turned, lines, items, &mut scratch, &mut exact, meter);
-    let (rows, cols) = shape(order, lines);
-    match numbers_of(&exact, order, rows, cols, &mut numbers) {
+    times_lines(
+        parts,
+        m,
+        lines,
+        &mut column,
+        &mut scratch,
+        &mut exact,
+        meter,
+    );
+    let (rows, cols) = shape(lines);
+    match numbers_of(&exact, lines.order, rows, cols, &mut numbers) {
         Ok(()) => Ok(Dense::new(rows, cols, numbers)),
         Err(fault) => Err(Refused::Op(fault)),
     }
 }
 
 // The rows and columns of the matrix whose lines the products are.
-fn shape(order: Order, lines: Lines) -> (u32, u32)
-    ensures rows { result.0 ≡ rows_in order lines }
-    ensures cols { result.1 ≡ cols_in order lines }
+fn shape(lines: Lines) -> (u32, u32)
+    ensures rows { result.0 ≡ rows_in lines.order lines }
+    ensures cols { result.1 ≡ cols_in lines.order lines }
 {
-    match order {
+    match lines.order {
         Order::Rows | Order::Mirrored => (lines.count, lines.outer),
         Order::Columns => (lines.outer, lines.count),
     }

@@ -19,12 +19,15 @@ count_more : (i : ℕ) (codes : List ℕ) (k : ℕ) → i < length codes
     → occurrences_of (drop i codes) k ≡ one_if k (code_of codes i) + occurrences_of (drop (i + 1) codes) k
 count_more i codes k row = sum_by-drop_more (one_if k) codes i 0 row
 
-first_here : (i : ℕ) (codes : List ℕ) (k : ℕ) → i < length codes → code_of codes i ≡ k → first_row_of (drop i codes) k ≡ 0
-first_here i codes k row same = prefix_len-drop_no (λ code. not (eqb code k)) codes i 0 row (ap not (eq-eqb (code_of codes i) k same))
+first_here : (i : ℕ) (codes : List ℕ) (k : ℕ) → i < length codes → code_of codes i ≡ k → first_row_of (drop i codes) k
+    ≡ 0
+first_here i codes k row same =
+    prefix_len-drop_no (λ code. not (eqb code k)) codes i 0 row (ap not (eq-eqb (code_of codes i) k same))
 
 first_later : (i : ℕ) (codes : List ℕ) (k : ℕ) → i < length codes → (code_of codes i ≡ k → ⊥)
     → first_row_of (drop i codes) k ≡ 1 + first_row_of (drop (i + 1) codes) k
-first_later i codes k row other = prefix_len-drop_yes (λ code. not (eqb code k)) codes i 0 row (ap not (ne_eqb (code_of codes i) k other))
+first_later i codes k row other =
+    prefix_len-drop_yes (λ code. not (eqb code k)) codes i 0 row (ap not (ne_eqb (code_of codes i) k other))
 
 -- a count fits where the number of rows does
 pub count_size : (i : ℕ) (codes : List ℕ) (k : ℕ) → occurrences_of (drop i codes) k ≤ length codes
@@ -33,14 +36,16 @@ count_size i codes k = omega (arith, count_by-le-length (λ code. eqb code k) (d
 -- the row before is counted
 pub counted_more : (i : ℕ) (codes : List ℕ) (tuples : ℕ) (counts first_rows : List ℕ) (code : ℕ) → i < length codes
     → code ≡ code_of codes i → code < tuples →
-    AreCountedFrom (i + 1) codes tuples counts first_rows → AreCountedFrom i codes tuples (set counts code (code_of counts code + 1))
+    AreCountedFrom (i + 1) codes tuples counts first_rows →
+    AreCountedFrom i codes tuples (set counts code (code_of counts code + 1))
     (set first_rows code i)
 counted_more i codes tuples counts first_rows code row is below are = record {
   a_count_each = length-set counts code (code_of counts code + 1) ∙ are.a_count_each;
   a_row_each = length-set first_rows code i ∙ are.a_row_each;
   count = λ k there. elim (cases_eq k code) [
     | inl same ↦
-        let on : one_if k (code_of codes i) ≡ 1 = ap (λ (b : Bool). cond b 1 0) (eq-eqb (code_of codes i) k (sym is ∙ sym same)) in
+        let on : one_if k (code_of codes i) ≡ 1 =
+        ap (λ (b : Bool). cond b 1 0) (eq-eqb (code_of codes i) k (sym is ∙ sym same)) in
         ap (code_of (set counts code (code_of counts code + 1))) same
         ∙ get_or-set_same counts code (code_of counts code + 1) 0 (omega (arith, below, are.a_count_each))
         ∙ omega (arith, on, count_more i codes k row, are.count k there, ap (code_of counts) same)

@@ -23,20 +23,27 @@ one_below codes (suc n) k used there =
     ]
 
 -- so no code has two rows, and the first row of a row's code is the row
-pub own_row : (codes : List ℕ) (n r : ℕ) → ((k : ℕ) → k < n → 0 < occurrences_of codes k) → n ≡ length codes → r < length codes
+pub own_row : (codes : List ℕ) (n r : ℕ) → ((k : ℕ) → k < n → 0 < occurrences_of codes k) → n ≡ length codes →
+    r < length codes
     → ((i : ℕ) → i < length codes → code_of codes i < n) → first_row_of codes (code_of codes r) ≡ r
 own_row codes n r used own row in_tuples =
     let k = code_of codes r in
     let f = first_row_of codes k in
     let some : 0 < occurrences_of codes k = used k (in_tuples r row) in
-    let once : occurrences_of codes k ≤ 1 = omega (arith, one_below codes n k used (in_tuples r row), below_few codes n, own) in
+    let once : occurrences_of codes k ≤ 1 = omega (
+      arith,
+      one_below codes n k used (in_tuples r row),
+      below_few codes n,
+      own,
+    ) in
     elim (cases_lt f r) [
       | inl before ↦
           let same : code_of codes f ≡ k = code_of_first_row codes k some in
           let start = ap (below codes) same in
           let count = ap (occurrences_of codes) same in
           let next = ap (λ (j : ℕ). below codes (j + 1)) same in
-          let first : rank codes f < below codes (k + 1) = omega (arith, rank_below codes f (first_row_there codes k some), next) in
+          let first : rank codes f < below codes (k + 1) =
+          omega (arith, rank_below codes f (first_row_there codes k some), next) in
           let this : rank codes r < below codes (k + 1) = rank_below codes r row in
           let ranks : rank codes f ≡ rank codes r = omega (arith, first, this, start, below_more codes k, once) in
           absurd (ranks_apart codes f r before row ranks)

@@ -16,17 +16,26 @@ elsewhere : (code k : ℕ) → (code ≡ k → ⊥) → one_if k code ≡ 0
 elsewhere code k other = ap (λ (b : Bool). cond b 1 0) (ne_eqb code k other)
 
 -- how many rows have a code, with one more row
-pub occurrences_push : (codes : List ℕ) (code k : ℕ) → occurrences_of (codes ++ code ∷ []) k ≡ occurrences_of codes k + one_if k code
+pub occurrences_push : (codes : List ℕ) (code k : ℕ) → occurrences_of (codes ++ code ∷ []) k ≡ occurrences_of codes k
+    + one_if k code
 occurrences_push codes code k = sum_by_push (one_if k) codes code
 
 -- there is a name left for a code that has none
-pub name_left : (none : ℕ) (fresh order : List ℕ) (k : ℕ) → AreNames none fresh order → k < length fresh → code_of fresh k ≡ none
+pub name_left : (none : ℕ) (fresh order : List ℕ) (k : ℕ) → AreNames none fresh order → k < length fresh →
+    code_of fresh k ≡ none
     → length order < none
 name_left none fresh order k are there without =
-    omega (arith, are.count, are.few, get_or-le-sum_by (one_if none) fresh k 0 there, here (code_of fresh k) none without)
+    omega (
+      arith,
+      are.count,
+      are.few,
+      get_or-le-sum_by (one_if none) fresh k 0 there,
+      here (code_of fresh k) none without,
+    )
 
 -- the next name is given to a code that has none
-pub name_given : (none : ℕ) (fresh order : List ℕ) (k : ℕ) → AreNames none fresh order → k < length fresh → code_of fresh k ≡ none
+pub name_given : (none : ℕ) (fresh order : List ℕ) (k : ℕ) → AreNames none fresh order → k < length fresh →
+    code_of fresh k ≡ none
     → AreNames none (set fresh k (length order)) (order ++ k ∷ [])
 name_given none fresh order k are there without =
     let m = length order in
@@ -56,8 +65,13 @@ name_given none fresh order k are there without =
             let before : n < m = grind (arith, n_there, longer, other) in
             let old = are.named n before in
             let is : code_of (order ++ k ∷ []) n ≡ code_of order n = get_or_append_left order (k ∷ []) 0 n before in
-            let apart = (λ (same : code_of order n ≡ k). absurd (omega (arith, ap (code_of fresh) same, old.1, without, left, before))) in
-            (omega (arith, is, size, old.0), ap (code_of (set fresh k m)) is ∙ get_or-set_other fresh k (code_of order n) m 0 apart ∙ old.1)
+            let apart =
+            (λ (same : code_of order n ≡ k). absurd
+            (omega (arith, ap (code_of fresh) same, old.1, without, left, before))) in (
+              omega (arith, is, size, old.0),
+              ap (code_of (set fresh k m)) is
+                  ∙ get_or-set_other fresh k (code_of order n) m 0 apart ∙ old.1,
+            )
       ];
       count = (let off : one_if none m ≡ 0 = elsewhere m none (λ same. absurd (omega (arith, same, left))) in
           let on : one_if none (code_of fresh k) ≡ 1 = here (code_of fresh k) none without in
@@ -83,7 +97,8 @@ first_kept codes code k there =
     (ne_eqb (first_row_of codes k) (length codes) (λ same. absurd (omega (arith, there, same))))
 
 -- a code above all others has its first row at the end
-first_last : (codes : List ℕ) (k : ℕ) → ((j : ℕ) → j < length codes → code_of codes j < k) → first_row_of (codes ++ k ∷ []) k ≡ length codes
+first_last : (codes : List ℕ) (k : ℕ) → ((j : ℕ) → j < length codes → code_of codes j < k) →
+    first_row_of (codes ++ k ∷ []) k ≡ length codes
 first_last codes k below =
     position_or_len_is (λ x. eqb x k) (codes ++ k ∷ []) (length codes) 0 (omega (arith, length_push codes k))
     (λ j row. ne_eqb (code_of (codes ++ k ∷ []) j) k (λ same. absurd
@@ -105,10 +120,16 @@ renamed_more i old new order order' name are is =
         | inl same ↦ omega (arith, ap (code_of (new ++ name ∷ [])) same, last, is.named)
         | inr other ↦
             let before : j < i = grind (arith, there, other) in
-            omega (arith, are.named j before, is.longer, get_or_append_left new (name ∷ []) 0 j (omega (arith, before, are.rows)))
+            omega (
+              arith,
+              are.named j before,
+              is.longer,
+              get_or_append_left new (name ∷ []) 0 j (omega (arith, before, are.rows)),
+            )
       ];
       same = λ j there. elim (cases_eq j i) [
-        | inl same ↦ ap (code_of order') (ap (code_of (new ++ name ∷ [])) same ∙ last) ∙ is.same ∙ ap (code_of old) (sym same)
+        | inl same ↦ ap (code_of order') (ap (code_of (new ++ name ∷ [])) same ∙ last) ∙ is.same
+            ∙ ap (code_of old) (sym same)
         | inr other ↦
             let before : j < i = grind (arith, there, other) in
             ap (code_of order') (get_or_append_left new (name ∷ []) 0 j (omega (arith, before, are.rows)))
@@ -122,7 +143,12 @@ renamed_more i old new order order' name are is =
         | inl before ↦ omega (arith, kept n before, are.there n before, length_push new name)
         | inr past ↦
             let is_name : n ≡ name = is.alone n past there in
-            omega (arith, ap (first_row_of (new ++ name ∷ [])) is_name, fresh (omega (arith, past, is_name)), length_push new name)
+            omega (
+              arith,
+              ap (first_row_of (new ++ name ∷ [])) is_name,
+              fresh (omega (arith, past, is_name)),
+              length_push new name,
+            )
       ];
       rising = λ m n lower there. elim (cases_lt n (length order)) [
         | inl before ↦ omega (arith, kept m (omega (arith, lower, before)), kept n before, are.rising m n lower before)

@@ -15,13 +15,19 @@ pub record IsAtRun (ends : List ℕ) (runs i n : ℕ) : Type 0 where
   pub from : code_of ends n ≤ i
   pub before : n < runs → i < code_of ends (n + 1)
 
-module _ {rows : ℕ} {codes : List ℕ} {rest : ℕ} {begins ends keys : List ℕ} (are : AreRuns rows codes rest begins ends keys) where
+module _ {rows : ℕ} {codes : List ℕ} {rest : ℕ} {begins ends keys : List ℕ}
+    (are : AreRuns rows codes rest begins ends keys) where
   ends_grow : (n d : ℕ) → n + d ≤ length keys → code_of ends n ≤ code_of ends (n + d)
   ends_grow n zero within = let e : n + 0 ≡ n = omega arith in rw e (omega arith)
   ends_grow n (suc d) within =
       let e : n + suc d ≡ n + d + 1 = omega arith in
       let there : n + d < length keys = omega (arith, within) in
-      rw e (omega (arith, ends_grow n d (omega (arith, there)), are.rising (n + d) (omega (arith, there)), are.not_empty (n + d) there))
+      rw e (omega (
+        arith,
+        ends_grow n d (omega (arith, there)),
+        are.rising (n + d) (omega (arith, there)),
+        are.not_empty (n + d) there,
+      ))
 
   pub ends_rise : (m n : ℕ) → m ≤ n → n ≤ length keys → code_of ends m ≤ code_of ends n
   ends_rise m n before within =
@@ -46,12 +52,14 @@ module _ {rows : ℕ} {codes : List ℕ} {rest : ℕ} {begins ends keys : List �
 
   -- the rows before a run, and those of it
   end_within : (n : ℕ) → n ≤ length keys → code_of ends n ≤ rows
-  end_within n there = omega (arith, ends_rise n (length keys) there (omega arith), are.rising (length keys) (omega arith), are.last)
+  end_within n there =
+      omega (arith, ends_rise n (length keys) there (omega arith), are.rising (length keys) (omega arith), are.last)
 
   pub begin_within : (n : ℕ) → n ≤ length keys → code_of begins n ≤ rows
   begin_within n there = elim (cases_lt n (length keys)) [
     | inl before ↦ omega (arith, are.not_empty n before, end_within (n + 1) (omega (arith, before)))
-    | inr past ↦ (let e : n ≡ length keys = omega (arith, past, there) in omega (arith, ap (code_of begins) e, are.last))
+    | inr past ↦ (let e : n ≡ length keys = omega (arith, past, there) in
+        omega (arith, ap (code_of begins) e, are.last))
   ]
 
   -- a run begins before row b, if it is none past the last
@@ -88,7 +96,8 @@ module _ {rows : ℕ} {codes : List ℕ} {rest : ℕ} {begins ends keys : List �
             })
         | inr odd ↦
             let next : (s + 1) / 2 ≡ n + 1 = omega (arith, odd) in
-            rw (ne_eqb (s % 2) 0 odd, eq-eqb ((s + 1) % 2) 0 (omega (arith, odd)), next) (run_stretch few n (omega (arith, there, odd)))
+            rw (ne_eqb (s % 2) 0 odd, eq-eqb ((s + 1) % 2) 0 (omega (arith, odd)), next)
+            (run_stretch few n (omega (arith, there, odd)))
       ]
 
   -- the first stretch begins at row 0, and the last ends with the rows
@@ -110,12 +119,17 @@ module _ {rows : ℕ} {codes : List ℕ} {rest : ℕ} {begins ends keys : List �
   ]
 
   -- what holds of all codes holds of the keys
-  pub key_below : {tuples : ℕ} → rows ≤ length codes → ((i : ℕ) → i < length codes → code_of codes i < tuples) → (n : ℕ) →
+  pub key_below : {tuples : ℕ} → rows ≤ length codes → ((i : ℕ) → i < length codes → code_of codes i < tuples) →
+      (n : ℕ) →
       n < length keys → code_of keys n < tuples
   key_below few below n there =
       let run = run_stretch few n there in
       let some = are.not_empty n there in
-      omega (arith, below (code_of begins n) (omega (arith, some, run.within)), run.same (code_of begins n) (omega arith) some)
+      omega (
+        arith,
+        below (code_of begins n) (omega (arith, some, run.within)),
+        run.same (code_of begins n) (omega arith) some,
+      )
 
   -- each row stands at a run
   pub ended_is : (i n : ℕ) → IsAtRun ends (length keys) i n → position_or_len (λ end. ltb i end) ends ≡ n + 1
@@ -148,7 +162,9 @@ module _ {rows : ℕ} {codes : List ℕ} {rest : ℕ} {begins ends keys : List �
       let next : p - 1 + 1 ≡ p = omega (arith, some) in
       record {
         there = omega (arith, some, few, are.an_end_each);
-        from = ltb-false i (code_of ends (p - 1)) (fails_before_first (λ end. ltb i end) ends (p - 1) 0 (omega (arith, some)));
+        from =
+            ltb-false i (code_of ends (p - 1))
+            (fails_before_first (λ end. ltb i end) ends (p - 1) 0 (omega (arith, some)));
         before = λ more. rw next (ltb-true i (code_of ends p)
             (passes_at_first (λ end. ltb i end) ends 0 (omega (arith, next, more, are.an_end_each))));
       }
@@ -167,7 +183,8 @@ module _ {rows : ℕ} {codes : List ℕ} {rest : ℕ} {begins ends keys : List �
   code_is i row =
       let n = ended_by ends i in
       elim (cases_lt i (code_of begins n)) [
-        | inl gap ↦ ap (λ (b : Bool). cond b (code_of keys n) rest) (lt-leb (code_of begins n) i gap) ∙ sym (code_in_gap i n (at_run i) gap)
+        | inl gap ↦ ap (λ (b : Bool). cond b (code_of keys n) rest) (lt-leb (code_of begins n) i gap)
+            ∙ sym (code_in_gap i n (at_run i) gap)
         | inr run ↦ ap (λ (b : Bool). cond b (code_of keys n) rest) (le-leb (code_of begins n) i run)
             ∙ sym ((code_in_run i n row (at_run i) run).1)
       ]
@@ -180,4 +197,5 @@ module _ {rows : ℕ} {codes : List ℕ} {rest : ℕ} {begins ends keys : List �
       let count = length-map-range_with_len test 0 (code_of begins (length keys)) in
       ext_get_or 0 (codes_in_runs rest begins ends keys) codes (count ∙ are.last ∙ all)
       (λ i lt. (let row : i < code_of begins (length keys) = rw count at lt in
-      get_or-map-range_with_len test 0 (code_of begins (length keys)) i i 0 row (omega arith) ∙ code_is i (omega (arith, row, are.last))))
+      get_or-map-range_with_len test 0 (code_of begins (length keys)) i i 0 row (omega arith)
+      ∙ code_is i (omega (arith, row, are.last))))

@@ -12,18 +12,21 @@ pub record IsMaximalRun (codes : List ℕ) (k begin end : ℕ) : Type 0 where
 
 -- where the runs of all codes but the rest begin, and their codes
 abbrev pub listed_begins : List ℕ → ℕ → List ℕ
-listed_begins codes rest = rows_where (λ i. not (code_of codes i == rest) && begins_run codes (code_of codes i) i) (length codes)
+listed_begins codes rest = rows_where (λ i. not (code_of codes i == rest) && begins_run codes (code_of codes i) i)
+    (length codes)
 
 abbrev pub listed_keys : List ℕ → ℕ → List ℕ
 listed_keys codes rest = map (code_of codes) (listed_begins codes rest)
 
 -- the run with this number, among all, ends before row end
 abbrev pub IsListedRun : List ℕ → ℕ → ℕ → ℕ → Type 0
-IsListedRun codes rest n end = let begin = code_of (listed_begins codes rest) n in IsMaximalRun codes (code_of codes begin) begin end
+IsListedRun codes rest n end = let begin = code_of (listed_begins codes rest) n in
+    IsMaximalRun codes (code_of codes begin) begin end
 
 -- the runs of each code are those of all runs that have its key
 abbrev pub AreRunsByKey : List ℕ → ℕ → Type 0
-AreRunsByKey codes rest = (k : ℕ) → (k ≡ rest → ⊥) → run_begins codes k ≡ map (code_of (listed_begins codes rest)) (rows_of (listed_keys codes rest) k)
+AreRunsByKey codes rest = (k : ℕ) → (k ≡ rest → ⊥) →
+    run_begins codes k ≡ map (code_of (listed_begins codes rest)) (rows_of (listed_keys codes rest) k)
 
 -- where the run of code k before run n ends: at row 0 before the first
 pub record IsPreviousEnd (codes : List ℕ) (k n end : ℕ) : Type 0 where

@@ -15,7 +15,8 @@ pub record AreRenamed (tuples : ℕ) (old new order : List ℕ) : Type 0 where
 
 -- the new code of each old one, where `none` says that it has none yet
 pub record AreNames (none : ℕ) (fresh order : List ℕ) : Type 0 where
-  pub names : (k : ℕ) → k < length fresh → code_of fresh k < none → (code_of fresh k < length order) × (code_of order (code_of fresh k) ≡ k)
+  pub names : (k : ℕ) → k < length fresh → code_of fresh k < none → (code_of fresh k < length order)
+      × (code_of order (code_of fresh k) ≡ k)
   pub named : (n : ℕ) → n < length order → (code_of order n < length fresh) × (code_of fresh (code_of order n) ≡ n)
   pub count : length order + occurrences_of fresh none ≡ length fresh
   pub few : length fresh ≤ none

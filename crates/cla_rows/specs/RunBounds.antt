@@ -20,9 +20,11 @@ pub record AreRuns (rows : ℕ) (codes : List ℕ) (rest : ℕ) (begins ends key
   pub rising : (n : ℕ) → n ≤ length keys → code_of ends n ≤ code_of begins n
   pub not_empty : (n : ℕ) → n < length keys → code_of begins n < code_of ends (n + 1)
   pub in_gap : (n i : ℕ) → n ≤ length keys → code_of ends n ≤ i → i < code_of begins n → code_of codes i ≡ rest
-  pub in_run : (n i : ℕ) → n < length keys → code_of begins n ≤ i → i < code_of ends (n + 1) → code_of codes i ≡ code_of keys n
+  pub in_run : (n i : ℕ) → n < length keys → code_of begins n ≤ i → i < code_of ends (n + 1) →
+      code_of codes i ≡ code_of keys n
   pub listed : (n : ℕ) → n < length keys → code_of keys n ≡ rest → ⊥
-  pub apart : (n : ℕ) → n + 1 < length keys → code_of ends (n + 1) ≡ code_of begins (n + 1) → code_of keys n ≡ code_of keys (n + 1) → ⊥
+  pub apart : (n : ℕ) → n + 1 < length keys → code_of ends (n + 1) ≡ code_of begins (n + 1) →
+      code_of keys n ≡ code_of keys (n + 1) → ⊥
 
 -- the rows from row `rows` to before row `end` have one code, which the row before them hasn't
 pub record AreMore (rows end code : ℕ) (codes : List ℕ) : Type 0 where
@@ -36,11 +38,13 @@ ended_by ends i = position_or_len (λ end. nat_lt i end) ends - 1
 
 -- the code of row i, by the runs: it lies in the first that has not ended, or before it
 abbrev pub code_in_runs : ℕ → List ℕ → List ℕ → List ℕ → ℕ → ℕ
-code_in_runs rest begins ends keys i = let n = ended_by ends i in if nat_le (code_of begins n) i then code_of keys n else rest
+code_in_runs rest begins ends keys i = let n = ended_by ends i in if nat_le (code_of begins n) i then code_of keys n
+    else rest
 
 -- the codes of rows, by their runs
 unfoldable pub codes_in_runs : ℕ → List ℕ → List ℕ → List ℕ → List ℕ
-codes_in_runs rest begins ends keys = map (code_in_runs rest begins ends keys) (range_with_len 0 (code_of begins (length keys)))
+codes_in_runs rest begins ends keys =
+    map (code_in_runs rest begins ends keys) (range_with_len 0 (code_of begins (length keys)))
 
 -- All rows, stretch by stretch: stretch 2 n is before run n, and has the rest, and stretch 2 n + 1 is run n. Where each
 -- begins, and its code.

@@ -9,7 +9,8 @@ use Rattle.cla_layout.specs.Groups.{IsGroup}
 use Rattle.cla_runs.specs.Rows.{rest_in}
 use Rattle.cla_runs.specs.declared.runs.Runs.{Runs}
 
-module _ {N : Type 0} {n : number.Ghosts N} {o : ord.Ghosts N} {e : partial_eq.Ghosts N} {p : partial_ord.Ghosts N} {h : hash.Ghosts N} where
+module _ {N : Type 0} {n : number.Ghosts N} {o : ord.Ghosts N} {e : partial_eq.Ghosts N} {p : partial_ord.Ghosts N}
+    {h : hash.Ghosts N} where
   abbrev pub runs_columns : Runs N n o e p h → ℕ
   runs_columns g = g.dictionary.width
 

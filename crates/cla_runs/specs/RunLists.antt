@@ -11,7 +11,8 @@ AreRunsIn runs rows codes rest = AreRuns rows codes rest runs.begins.items runs.
 
 -- these were the runs in the first rows of some codes, and with the rows up to row `end`, which have one code, are these
 abbrev pub Adds : RunList → ℕ → ℕ → ℕ → RunList → Type 0
-Adds before code rest end after = (rows : ℕ) (codes : List ℕ) → AreRunsIn before rows codes rest → AreMore rows end code codes → AreRunsIn after end codes rest
+Adds before code rest end after = (rows : ℕ) (codes : List ℕ) → AreRunsIn before rows codes rest →
+    AreMore rows end code codes → AreRunsIn after end codes rest
 
 -- the row after run n of code k
 abbrev pub end_of : RunList → ℕ → ℕ → ℕ

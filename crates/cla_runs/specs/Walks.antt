@@ -10,7 +10,8 @@ pub record AreJoinedTo (to : ℕ) (join : ℤ → ℤ → ℤ) (codes : List ℕ
 
 -- the rows from row a to before row b are joined with a part, whatever has come of those before
 abbrev pub JoinsOn : (ℤ → ℤ → ℤ) → ℤ → ℕ → ℕ → List ℤ → List ℤ → Type 0
-JoinsOn join part a b before after = (codes : List ℕ) (k : ℕ) (parts old : List ℤ) → IsStretch codes k a b → part ≡ at parts k →
+JoinsOn join part a b before after = (codes : List ℕ) (k : ℕ) (parts old : List ℤ) → IsStretch codes k a b →
+    part ≡ at parts k →
     AreJoinedTo a join codes parts old before → AreJoinedTo b join codes parts old after
 
 -- the items of each code are added up
@@ -19,7 +20,8 @@ pub record AreGatheredTo (to : ℕ) (codes : List ℕ) (items sums : List ℤ) :
 
 -- the rows from row a to before row b, which have code k, are gathered, whatever has come of those before
 abbrev pub GathersOn : List ℤ → ℕ → ℕ → ℕ → List ℤ → List ℤ → Type 0
-GathersOn items k a b before after = (codes : List ℕ) → IsStretch codes k a b → AreGatheredTo a codes items before → AreGatheredTo b codes items after
+GathersOn items k a b before after = (codes : List ℕ) → IsStretch codes k a b → AreGatheredTo a codes items before →
+    AreGatheredTo b codes items after
 
 -- of the rows from row a on, each has its code
 pub record AreCodedTo (to : ℕ) (codes : List ℕ) (a : ℕ) (made : List ℕ) : Type 0 where

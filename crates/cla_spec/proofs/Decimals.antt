@@ -9,7 +9,8 @@ use Rattle.std.proofs.lemmas.Str.Parse.{digit_at}
 use Rattle.cla_spec.specs.Numbers.{decimal_of}
 
 -- the value of digits without a sign
-pub value_of_digits : (ds : List ℕ) → (get_or ds 0 0 ≡ 45 → ⊥) → (get_or ds 0 0 ≡ 43 → ⊥) → signed_digits_value 10 ds ≡ pos (digits_value 10 ds)
+pub value_of_digits : (ds : List ℕ) → (get_or ds 0 0 ≡ 45 → ⊥) → (get_or ds 0 0 ≡ 43 → ⊥) → signed_digits_value 10 ds
+    ≡ pos (digits_value 10 ds)
 value_of_digits ds minus plus = rw (ne_eqb (get_or ds 0 0) 45 minus, ne_eqb (get_or ds 0 0) 43 plus) refl
 
 -- the value of a decimal text

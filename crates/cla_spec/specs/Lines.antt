@@ -7,7 +7,8 @@ is_lf b = b == 10
 
 -- a line without one CR at its end
 abbrev pub without_cr : List ℕ → List ℕ
-without_cr line = if nat_lt 0 (length line) && slice_index line (length line - 1) == 13 then take (length line - 1) line else line
+without_cr line = if nat_lt 0 (length line) && slice_index line (length line - 1) == 13 then take (length line - 1) line
+    else line
 
 -- the pieces between the LFs, but for an empty last one
 abbrev pub ended_lines : List (List ℕ) → List (List ℕ)

@@ -30,7 +30,8 @@ pub record IsWellMade (bits : ℕ) (m : Matrix) : Type 0 where
   pub in_range : All (InRange bits) m.cells
 
 abbrev pub is_well_made : ℕ → Matrix → Bool
-is_well_made bits m = nat_le 1 m.rows && nat_le 1 m.cols && length m.cells == m.rows * m.cols && nat_le (m.rows * m.cols) most_cells && list_all (in_range bits) m.cells
+is_well_made bits m = nat_le 1 m.rows && nat_le 1 m.cols && length m.cells == m.rows * m.cols && nat_le
+    (m.rows * m.cols) most_cells && list_all (in_range bits) m.cells
 
 -- cells of this shape, row by row
 abbrev pub row_by_row : {X : Type 0} → ℕ → ℕ → (ℕ → ℕ → X) → List X

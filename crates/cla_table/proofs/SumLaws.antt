@@ -1,5 +1,5 @@
 -- Sums in either form.
-use Rattle.std.proofs.Common.{length-append, inl, inr, zero, suc, [], ◌∷◌, ◌++◌, ◌≤◌, take, slice_get, Some, ◌≡◌, ℕ, ℤ, pos, ◌+◌, ◌*◌, ◌/◌, ◌%◌, ◌<◌, ◌^◌, ◌==◌, ◌&&◌, cond, List, length, map, set, get_or, get_or-set_other, get_or-set_same, refl, sym, ap, ◌∙◌, arith, Result, Ok, Err, OnOk, OnErr}
+use Rattle.std.proofs.Common.{length-append, inl, inr, zero, suc, [], ◌∷◌, ◌++◌, ◌≤◌, take, slice_get, Some, ◌≡◌, ℕ, ℤ, pos, ◌+◌, ◌*◌, ◌/◌, ◌%◌, ◌<◌, ◌^◌, ◌==◌, ◌&&◌, cond, List, length, map, replicate, set, get_or, get_or-set_other, get_or-set_same, refl, sym, ap, ◌∙◌, arith, Result, Ok, Err, OnOk, OnErr}
 use Rattle.std.proofs.lemmas.Bool.{cases_eq, eq-eqb, ne_eqb}
 use Rattle.std.proofs.lemmas.List.{map-set, length-map}
 use Rattle.std.proofs.lemmas.Nat.{same_from_place, pow_pos, div-add-mod'}
@@ -43,6 +43,10 @@ cell_of_place cols row col i j v w within left = elim (cases_eq row i) [
   ) refl
 ]
 
+take_none : {N : Type 0} (n : ℕ) → take {A = N} n [] ≡ []
+take_none zero = refl
+take_none (suc n) = refl
+
 module _ {N : Type 0} (value : N → ℤ) where
   -- few sums, once one is set
   pub few_set : (grid : Grid) (old new : List (ℕ × N)) (row col : ℕ) (v : ℤ) → col < grid.cols
@@ -80,16 +84,16 @@ module _ {N : Type 0} (value : N → ℤ) where
             (get_or-set_other (map value cells) here there (value n) (pos 0) (λ h. other (sym (apart h).0)))
       ])
 
-  -- one more zero
-  pub zero_more : (old new : List N) (n : N) → new ≡ old ++ n ∷ [] → value n ≡ pos 0 → AreZero value old
-      → AreZero value new
-  zero_more old new n is at all k = rw is (by old k all)
-    where
-      by : (xs : List N) (k : ℕ) → AreZero value xs → get_or (map value (xs ++ n ∷ [])) k (pos 0) ≡ pos 0
-      by [] zero h = at
-      by [] (suc k) h = refl
-      by (x ∷ xs) zero h = h zero
-      by (x ∷ xs) (suc k) h = by xs k (λ i. h (suc i))
+  -- numbers that are all 0
+  pub zeros_are : (count : ℕ) (n : N) → value n ≡ pos 0 → AreZero value (replicate count n)
+  zeros_are zero n at k = refl
+  zeros_are (suc count) n at zero = at
+  zeros_are (suc count) n at (suc k) = zeros_are count n at k
+
+  pub filled_up : (old new : List N) (length count : ℕ) (n : N) → old ≡ [] → new ≡ take length old ++ replicate count n
+      → value n ≡ pos 0 → AreZero value new
+  filled_up old new length count n none is at =
+      rw (is, none, take_none length) (zeros_are count n at)
 
   -- one more entry is written
   pub written_on : (grid : Grid) (entries : List (ℕ × N)) (k : ℕ) (e : ℕ × N) (cells : List N) (place : ℕ)
@@ -114,9 +118,6 @@ module _ {N : Type 0} (value : N → ℤ) where
       (written value (take k entries) (pos 0) (i * grid.cols + j))) (sym split)
       ∙ sym (written_more value entries k e (pos 0) (i * grid.cols + j) here)
       ∙ ap (λ (n : ℕ). written value (take n entries) (pos 0) (i * grid.cols + j)) (sym next)
-
-pub one_longer : {X : Type 0} (old new : List X) (x : X) → new ≡ old ++ x ∷ [] → length new ≡ length old + 1
-one_longer {X} old new x is = ap (λ (xs : List X). length xs) is ∙ length-append old (x ∷ []) ∙ omega arith
 
 -- sums that were set after they were kept in another form
 pub set_then : (grid : Grid) (f g h : ℕ → ℕ → ℤ) (row col : ℕ) (v : ℤ) → AreSame grid g f

@@ -5,7 +5,7 @@ use Rattle.std.proofs.lemmas.Int.{ints}
 use Rattle.std.proofs.lemmas.List.{ext_get_or, get_or-map, length-map}
 use Rattle.std.proofs.lemmas.Nat.{pow_pos, div-add-mod'}
 use Rattle.std.proofs.Math.Nat.{div-lt_iff_lt-mul}
-use Rattle.cla_spec.specs.Matrix.{entry, row_by_row}
+use Rattle.cla_spec.specs.Matrix.{Matrix, entry, row_by_row}
 use Rattle.cla_spec.proofs.Entries.{row_by_row-at, row_by_row-count, row_by_row-same, row_by_row-entry}
 use Rattle.cla_table.specs.declared.grid.Grid.{Grid}
 use Rattle.cla_table.specs.declared.sums.Sums.{Sums}
@@ -34,6 +34,29 @@ flat_place rows cols i j low =
 plus_nothing : (a : ℤ) → a ≡ a +ℤ pos 0
 plus_nothing a = omega (arith, ints)
 
+-- the sums of a shape, as a matrix
+abbrev matrix_with : Grid → (ℕ → ℕ → ℤ) → Matrix
+matrix_with grid f = record { rows = grid.rows; cols = grid.cols; cells = row_by_row grid.rows grid.cols f }
+
+-- the sum at one cell grew
+pub cells_add : (grid : Grid) (old new : ℕ → ℕ → ℤ) (row col : ℕ) (v sum : ℤ) → sum ≡ old row col +ℤ v
+    → AreSame grid new (with_cell old row col sum) → Adds (matrix_with grid old) (matrix_with grid new) row col v
+cells_add grid old new row col v sum is set = record {
+  same_rows = refl;
+  same_cols = refl;
+  grown = λ i j low left. row_by_row-entry grid.rows grid.cols new i j low left ∙ set i j low left ∙ by i j
+      ∙ ap (λ (z : ℤ). z +ℤ value_at row col v i j) (sym (row_by_row-entry grid.rows grid.cols old i j low left));
+}
+  where
+    by : (i j : ℕ) → with_cell old row col sum i j ≡ old i j +ℤ value_at row col v i j
+    by i j = elim (cases_eq row i) [
+      | inl same_row ↦ elim (cases_eq col j) [
+        | inl same_col ↦ rw (← same_row, ← same_col, eq-eqb row row refl, eq-eqb col col refl) is
+        | inr other ↦ rw (ne_eqb col j other, eq-eqb row i same_row) (plus_nothing (old i j))
+      ]
+      | inr other ↦ rw (ne_eqb row i other) (plus_nothing (old i j))
+    ]
+
 module _ {N : Type 0} (value : N → ℤ) where
   pub entry_is : (grid : Grid) (sums : Sums N) (i j : ℕ) → i < grid.rows → j < grid.cols
       → entry (table_of value grid sums) i j ≡ sum_in value grid sums i j
@@ -48,22 +71,8 @@ module _ {N : Type 0} (value : N → ℤ) where
       → sum ≡ sum_in value grid old row col +ℤ v
       → AreSame grid (sum_in value grid new) (with_cell (sum_in value grid old) row col sum)
       → Adds (table_of value grid old) (table_of value grid new) row col v
-  adds grid old new row col v sum below within is set = record {
-    same_rows = refl;
-    same_cols = refl;
-    grown = λ i j low left. entry_is grid new i j low left ∙ set i j low left ∙ by i j
-        ∙ ap (λ (z : ℤ). z +ℤ value_at row col v i j) (sym (entry_is grid old i j low left));
-  }
-    where
-      by : (i j : ℕ) → with_cell (sum_in value grid old) row col sum i j ≡ sum_in value grid old i j +ℤ value_at row
-          col v i j
-      by i j = elim (cases_eq row i) [
-        | inl same_row ↦ elim (cases_eq col j) [
-          | inl same_col ↦ rw (← same_row, ← same_col, eq-eqb row row refl, eq-eqb col col refl) is
-          | inr other ↦ rw (ne_eqb col j other, eq-eqb row i same_row) (plus_nothing (sum_in value grid old i j))
-        ]
-        | inr other ↦ rw (ne_eqb row i other) (plus_nothing (sum_in value grid old i j))
-      ]
+  adds grid old new row col v sum below within is set =
+      cells_add grid (sum_in value grid old) (sum_in value grid new) row col v sum is set
 
   -- the cells of few sums, row by row
   pub few_cells : (grid flat : Grid) (entries : List (ℕ × N)) (cells : List N) → flat.rows ≡ grid.rows

@@ -47,3 +47,8 @@ AreZero value numbers = (k : ℕ) → slice_index_or (map value numbers) k (pos 
 abbrev pub IsEmpty : {N : Type 0} → Sums N → Type 0
 IsEmpty (Few sums) = sums.entries ≡ []
 IsEmpty (Dense cells) = ⊥
+
+-- the matrix of the sums of which all cells are kept
+abbrev pub dense_table_of : {N : Type 0} → (N → ℤ) → Grid → List N → Matrix
+dense_table_of value grid cells
+    = record { rows = grid.rows; cols = grid.cols; cells = row_by_row grid.rows grid.cols (dense_sum value grid cells) }

@@ -123,7 +123,8 @@ pub(crate) fn into_cells<N: Number>(
     requires bits { IsSupported N.BITS }
     requires whole { IsWhole grid sums }
     ensures count { IfOk result (λ cells. length cells.items ≡ grid.rows * grid.cols) }
-    ensures cells { IfOk result (λ cells. map N.value cells.items ≡ row_by_row grid.rows grid.cols (sum_in N.value grid sums)) }
+    ensures cells { IfOk result (λ cells. map N.value cells.items ≡ row_by_row grid.rows grid.cols
+        (sum_in N.value grid sums)) }
 {
     match sums {
         Sums::Few(few) => spread(alloc, grid.by_rows(), &few),
@@ -136,7 +137,8 @@ fn spread<N: Number>(alloc: Global, grid: Grid, sums: &IndexMap<u32, N>) -> Resu
     requires bits { IsSupported N.BITS }
     requires within { AreWithin (grid.rows * grid.cols) sums.now.entries }
     ensures count { IfOk result (λ cells. length cells.items ≡ grid.rows * grid.cols) }
-    ensures sums { IfOk result (λ cells. AreSame grid (dense_sum N.value grid cells.items) (few_sum N.value grid sums.now.entries)) }
+    ensures sums { IfOk result (λ cells. AreSame grid (dense_sum N.value grid cells.items)
+        (few_sum N.value grid sums.now.entries)) }
 {
     let mut cells = zeros(alloc, grid.cells())?;
     for i in 0..sums.len() {
@@ -153,11 +155,8 @@ fn zeros<N: Number>(alloc: Global, count: usize) -> Result<Vec<N>, Memory>
     ensures count { IfOk result (λ cells. length cells.items ≡ count) }
     ensures zero { IfOk result (λ cells. AreZero N.value cells.items) }
 {
-    let zero = zero();
-    let mut cells = Vec::with_capacity(alloc, count)?;
-    while cells.len() < count {
-        cells.push(zero)?;
-    }
+    let mut cells = Vec::new(alloc);
+    cells.resize(count, zero())?;
     Ok(cells)
 }
 

@@ -1,11 +1,12 @@
 //! Tables of sums.
 
-ghost use Rattle.std.specs.Prelude.{◌≡◌, ◌*◌, ◌<◌, ◌≤◌, ◌+ℤ◌, IfOk, IfErr, OnOk, OnErr};
+ghost use Rattle.std.specs.Prelude.{MatchResult, ◌≡◌, ◌*◌, ◌<◌, ◌≤◌, ◌+ℤ◌, IfOk, IfErr, OnOk, OnErr};
 ghost use Rattle.cla_num.specs.Bits.{IsSupported};
 ghost use Rattle.cla_spec.specs.Matrix.{most_cells, entry, IsShaped};
 ghost use Rattle.cla_spec.specs.Numbers.{InRange};
 ghost use Rattle.cla_table.specs.Tables.{zero_table, Adds, HasCause};
 
+use crate::dense::DenseTriples;
 use crate::fault::TableFault;
 use crate::grid::Grid;
 use crate::sums::{Sums, into_cells, put_sum, sum_at};
@@ -90,6 +91,40 @@ impl<N: Number> Triples<N> {
                 Ok(())
             }
             Err(_) => Err(TableFault::Memory),
+        }
+    }
+
+    /// The table in the form that keeps all cells, if its sums aren't few; else the table as it is.
+    pub fn into_dense(self) -> Result<DenseTriples<N>, Triples<N>>
+        ensures { MatchResult result (λ dense. dense ≡ self) (λ triples. triples ≡ self) }
+    {
+        let Triples {
+            alloc,
+            grid,
+            sums,
+            few,
+        } = self;
+        match sums {
+            Sums::Dense(cells) => Ok(DenseTriples { grid, cells }),
+            Sums::Few(sums) => Err(Triples {
+                alloc,
+                grid,
+                sums: Sums::Few(sums),
+                few,
+            }),
+        }
+    }
+
+    /// A table of which all cells are kept.
+    pub fn of_dense(alloc: Global, dense: DenseTriples<N>) -> Triples<N>
+        ensures { result ≡ dense }
+    {
+        let DenseTriples { grid, cells } = dense;
+        Triples {
+            alloc,
+            grid,
+            sums: Sums::Dense(cells),
+            few: 0,
         }
     }
 

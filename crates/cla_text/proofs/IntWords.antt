@@ -48,11 +48,14 @@ pub fits_from : (v : ℤ) → fits_128 v ≡ true → FitsSigned w128 v
 fits_from (pos n) h = record { sfits = ltb-true _ _ h }
 fits_from (negsuc n) h = record { sfits = ltb-true _ _ h }
 
-pub int_ok : (word : List ℕ) (v : ℤ) → is_int_word word ≡ true → FitsSigned w128 (signed_digits_value 10 word) → v ≡ signed_digits_value 10 word → int_of word ≡ Ok v
+pub int_ok : (word : List ℕ) (v : ℤ) → is_int_word word ≡ true → FitsSigned w128 (signed_digits_value 10 word) →
+    v ≡ signed_digits_value 10 word → int_of word ≡ Ok v
 unfolding int_of
 int_ok word v h fits is = rw (h, is, does_fit (signed_digits_value 10 word) fits) refl
 
-pub int_wide : (word : List ℕ) → is_int_word word ≡ true → (IsNumeral 10 (without_leading_sign word) × FitsSigned w128 (signed_digits_value 10 word) → ⊥) → int_of word ≡ Err Wide
+pub int_wide : (word : List ℕ) → is_int_word word ≡ true →
+    (IsNumeral 10 (without_leading_sign word) × FitsSigned w128 (signed_digits_value 10 word) → ⊥) →
+    int_of word ≡ Err Wide
 unfolding int_of is_int_word
 int_wide word h parsed = elim (cases_Bool (fits_128 (signed_digits_value 10 word))) [
   | inl fits ↦ absurd (parsed ((numeral (without_leading_sign word) h).1, fits_from _ fits))

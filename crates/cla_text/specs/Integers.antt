@@ -20,4 +20,6 @@ fits_128 (negsuc n) = nat_lt n (2 ^ 127)
 
 -- the integer that a word spells
 unfoldable pub int_of : List ℕ → Result ℤ BadInt
-int_of word = if is_int_word word then (if fits_128 (signed_digits_value 10 word) then Ok (signed_digits_value 10 word) else Err Wide) else Err Form
+int_of word =
+    if is_int_word word then (if fits_128 (signed_digits_value 10 word) then Ok (signed_digits_value 10 word) else Err
+    Wide) else Err Form

@@ -26,7 +26,10 @@ add_part-requires-clause-room g c =
     let whole = c.parts-part-items.ensures.whole in
     let few = values_few g.N.Number.BITS base c.loop-part.part-index whole in
     rw c.loop-part.invariant.counts
-    (record { mults = omega (arith, c.requires.room.mults, few, whole.few); maps = omega (arith, c.requires.room.maps) })
+    (record {
+      mults = omega (arith, c.requires.room.mults, few, whole.few);
+      maps = omega (arith, c.requires.room.maps);
+    })
 
 pub add_part-requires-clause-within : goal.add_part-requires-clause-within
 add_part-requires-clause-within g c place there =
@@ -50,9 +53,11 @@ add_part-requires-clause-zeros g c place there =
     let whole = c.parts-part-items.ensures.whole in
     let read = part_read g.N.Number.BITS codes dictionary m _ q part whole c.parts-part-items.ensures.parts
     c.loop-part-test.true c.part-item.is in
-    let columns : (part_at (parts_of codes dictionary m.parts) q).columns ≡ part.columns.items = ap (λ (p : LayoutPart). p.columns) read.same in
+    let columns : (part_at (parts_of codes dictionary m.parts) q).columns ≡ part.columns.items =
+    ap (λ (p : LayoutPart). p.columns) read.same in
     let place_there : place < length (part_at (parts_of codes dictionary m.parts) q).columns = rw columns there in
-    rw columns at (not_yet IsSumOf g.N.Number.BITS (layout_of codes dictionary m) q place c.args.into.now c.loop-part.into
+    rw columns at (not_yet IsSumOf g.N.Number.BITS (layout_of codes dictionary m) q place c.args.into.now
+    c.loop-part.into
     whole read.within place_there c.loop-part.invariant.sums)
     ∙ c.requires.zeros (column_at part.columns.items place)
 
@@ -69,9 +74,16 @@ loop-part-preserved g c =
     record {
       sums = parts_placed IsSumOf sum_respects g.N.Number.BITS (layout_of codes dictionary m) q
           c.args.into.now c.loop-part.into c.add_part.new.into whole read.within
-          (subst (λ (p : LayoutPart). ArePlaced IsSumOf p c.loop-part.into c.add_part.new.into) (sym read.same) c.add_part.ensures.sums)
+          (subst (λ (p : LayoutPart). ArePlaced IsSumOf p c.loop-part.into c.add_part.new.into) (sym read.same)
+          c.add_part.ensures.sums)
           c.loop-part.invariant.sums;
-      counts = rw (c.add_part.ensures.counts, c.loop-part.invariant.counts, values_more (parts_of codes dictionary m.parts) q read.within, read.same) (search rules);
+      counts =
+          rw (
+            c.add_part.ensures.counts,
+            c.loop-part.invariant.counts,
+            values_more (parts_of codes dictionary m.parts) q read.within,
+            read.same,
+          ) (search rules);
     }
 
 pub returns-clause-sums : goal.returns-clause-sums
@@ -88,5 +100,6 @@ returns-clause-sums g c =
 pub returns-clause-counts : goal.returns-clause-counts
 returns-clause-counts g c =
     let m = c.args.m.now in
-    rw (sym (parts_read g.G.Group.codes g.G.Group.dictionary m _ c.loop-part.part-index c.parts-part-items.ensures.parts (λ lt. omega (arith, lt, c.loop-part-test.false))))
+    rw (sym (parts_read g.G.Group.codes g.G.Group.dictionary m _ c.loop-part.part-index c.parts-part-items.ensures.parts
+    (λ lt. omega (arith, lt, c.loop-part-test.false))))
     c.loop-part.invariant.counts

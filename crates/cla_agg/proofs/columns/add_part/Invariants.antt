@@ -9,6 +9,7 @@ use Rattle.cla_agg.proofs.columns.add_part.Given as goal
 abbrev pub invariant-loop-k : goal.invariant-loop-k
 invariant-loop-k g l = record {
   sums : AreAddedTo l.k (part_of g.G.Group.codes g.G.Group.dictionary l.part) l.into;
-  kept : (j : ℕ) → has_column (part_of g.G.Group.codes g.G.Group.dictionary l.part) j ≡ false → at l.into j ≡ at l.fn.into j;
+  kept : (j : ℕ) → has_column (part_of g.G.Group.codes g.G.Group.dictionary l.part) j ≡ false →
+      at l.into j ≡ at l.fn.into j;
   counts : l.meter ≡ record l.fn.meter { mults = l.fn.meter.mults + l.k * length l.part.columns.items };
 }

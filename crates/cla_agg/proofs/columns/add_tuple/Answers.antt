@@ -51,14 +51,16 @@ plus-requires g c =
     let held : c.index-into-place.result ≡ sum_to f c.args.k =
     c.index-into-place.is ∙ get_or_default c.loop-c.into c.index.result.now c.index-into-place.result (pos 0) within
     ∙ ap (at c.loop-c.into) column ∙ c.loop-c.invariant.sums.left c.loop-c.c (omega arith) col in
-    let count : c.count-count.result ≡ pos (occurrences_of codes c.args.k) = c.count-count.ensures ∙ ap (λ (n : ℕ). pos n) c.occurrences.ensures in
+    let count : c.count-count.result ≡ pos (occurrences_of codes c.args.k) = c.count-count.ensures
+    ∙ ap (λ (n : ℕ). pos n) c.occurrences.ensures in
     let term : c.times.result ≡ f c.args.k =
     c.times.ensures.product ∙ ap (λ (z : ℤ). z *ℤ c.count-count.result) c.value.ensures
     ∙ ap (λ (z : ℤ). value_of tuples c.args.k c.loop-c.c *ℤ z) count in
     let sum : c.index-into-place.result +ℤ c.times.result ≡ sum_to f (suc c.args.k) =
     ap (λ (z : ℤ). z +ℤ c.times.result) held ∙ ap (λ (z : ℤ). sum_to f c.args.k +ℤ z) term in
     subst (FitsSigned w128) (sym sum)
-    (fits_by_size _ (column_size _ _ _ _ c.requires.part.group c.requires.bits c.loop-c.c (suc c.args.k) col (omega (arith, c.requires.tuple))))
+    (fits_by_size _ (column_size _ _ _ _ c.requires.part.group c.requires.bits c.loop-c.c (suc c.args.k) col
+    (omega (arith, c.requires.tuple))))
 
 pub loop-c-preserved : goal.loop-c-preserved
 loop-c-preserved g c =
@@ -77,7 +79,8 @@ loop-c-preserved g c =
     let held : c.index-into-place.result ≡ sum_to f c.args.k =
     c.index-into-place.is ∙ get_or_default c.loop-c.into c.index.result.now c.index-into-place.result (pos 0) within
     ∙ ap (at c.loop-c.into) column ∙ c.loop-c.invariant.sums.left c.loop-c.c (omega arith) col in
-    let count : c.count-count.result ≡ pos (occurrences_of codes c.args.k) = c.count-count.ensures ∙ ap (λ (n : ℕ). pos n) c.occurrences.ensures in
+    let count : c.count-count.result ≡ pos (occurrences_of codes c.args.k) = c.count-count.ensures
+    ∙ ap (λ (n : ℕ). pos n) c.occurrences.ensures in
     let term : c.times.result ≡ f c.args.k =
     c.times.ensures.product ∙ ap (λ (z : ℤ). z *ℤ c.count-count.result) c.value.ensures
     ∙ ap (λ (z : ℤ). value_of tuples c.args.k c.loop-c.c *ℤ z) count in
@@ -94,7 +97,8 @@ pub returns-clause-sums : goal.returns-clause-sums
 returns-clause-sums g c =
     let part = part_of g.G.Group.codes g.G.Group.dictionary c.args.part.now in
     let wide = same_width _ _ _ _ _ (g.met.G.Group.laws c.args.part.now.group) c.requires.part.group in
-    let all : c.loop-c.c ≡ length part.columns = omega (arith, c.loop-c-test.false, c.width-c-end.ensures, c.loop-c.auto.c-end, wide) in
+    let all : c.loop-c.c ≡ length part.columns =
+    omega (arith, c.loop-c-test.false, c.width-c-end.ensures, c.loop-c.auto.c-end, wide) in
     record {
       added = λ d there. c.loop-c.invariant.sums.done d (omega (arith, there, all));
       kept = c.loop-c.invariant.sums.kept;
@@ -104,5 +108,6 @@ pub returns-clause-counts : goal.returns-clause-counts
 returns-clause-counts g c =
     let part = part_of g.G.Group.codes g.G.Group.dictionary c.args.part.now in
     let wide = same_width _ _ _ _ _ (g.met.G.Group.laws c.args.part.now.group) c.requires.part.group in
-    let all : c.loop-c.c ≡ length part.columns = omega (arith, c.loop-c-test.false, c.width-c-end.ensures, c.loop-c.auto.c-end, wide) in
+    let all : c.loop-c.c ≡ length part.columns =
+    omega (arith, c.loop-c-test.false, c.width-c-end.ensures, c.loop-c.auto.c-end, wide) in
     rw (sym all) c.loop-c.invariant.counts

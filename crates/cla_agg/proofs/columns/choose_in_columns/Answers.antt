@@ -45,7 +45,8 @@ loop-part-preserved g c =
     let of = IsExtreme g.O.Order.before in
     parts_placed of (extreme_respects g.O.Order.before) g.N.Number.BITS (layout_of codes dictionary m) q
     c.args.into.now c.loop-part.into c.choose_in_part.new.into whole read.within
-    (subst (λ (p : LayoutPart). ArePlaced of p c.loop-part.into c.choose_in_part.new.into) (sym read.same) c.choose_in_part.ensures)
+    (subst (λ (p : LayoutPart). ArePlaced of p c.loop-part.into c.choose_in_part.new.into) (sym read.same)
+    c.choose_in_part.ensures)
     c.loop-part.invariant
 
 pub returns-clause-firsts : goal.returns-clause-firsts

@@ -6,4 +6,5 @@ use Rattle.cla_agg.proofs.columns.choose_in_columns.Given as goal
 -- the columns of the parts so far
 abbrev pub invariant-loop-part : goal.invariant-loop-part
 invariant-loop-part g l =
-    ArePartsPlaced (IsExtreme g.O.Order.before) (layout_of g.G.Group.codes g.G.Group.dictionary l.m) l.part-index l.fn.into l.into
+    ArePartsPlaced (IsExtreme g.O.Order.before) (layout_of g.G.Group.codes g.G.Group.dictionary l.m) l.part-index
+    l.fn.into l.into

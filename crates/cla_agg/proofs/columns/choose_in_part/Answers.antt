@@ -1,33 +1,45 @@
-use Rattle.std.proofs.Common.{◌≡◌, ◌<◌, ℕ, length, subst, sym, arith}
-use Rattle.cla_layout.specs.Groups.{cell_of}
+use Rattle.std.proofs.Common.{◌≡◌, ◌<◌, ◌+◌, ℕ, length, subst, sym, ◌∙◌, arith}
+use Rattle.cla_layout.specs.Groups.{at, value_of}
 use Rattle.cla_layout.specs.GroupLaws.{IsExtreme}
 use Rattle.cla_layout.specs.Layouts.{column_at}
-use Rattle.cla_layout.proofs.Columns.{column_read}
-use Rattle.cla_layout.proofs.Wholes.{same_width}
+use Rattle.cla_layout.proofs.Regroup.{codes_of_group, extremes_regroup}
 use Rattle.cla_coded.specs.Parts.{part_of}
-use Rattle.cla_agg.proofs.Placed.{IsPlaceOf, placed_here}
+use Rattle.cla_agg.proofs.Extremes.{extreme_one}
 use Rattle.cla_agg.proofs.columns.choose_in_part.Goals as goal
 
-pub loop-c-preserved : goal.loop-c-preserved
-loop-c-preserved g c =
-    let codes = g.G.Group.codes c.args.part.now.group in
+pub loop-k-init : goal.loop-k-init
+loop-k-init g c =
     let tuples = g.G.Group.dictionary c.args.part.now.group in
-    let part = part_of g.G.Group.codes g.G.Group.dictionary c.args.part.now in
-    let wide = same_width _ _ _ _ _ (g.met.G.Group.laws c.args.part.now.group) c.requires.part.group in
-    let col : c.loop-c.c < length part.columns = omega (arith, c.loop-c-test.true, c.width-c-end.ensures, wide) in
-    let column : c.index.result.now ≡ column_at part.columns c.loop-c.c =
-    column_read part.columns c.loop-c.c c.index.result.now c.index.ensures col in
-    let within : c.index.result.now < length c.loop-c.into =
-    rw column (omega (arith, c.requires.within c.loop-c.c col, c.loop-c.auto.into)) in
-    let place : IsPlaceOf part c.loop-c.into c.loop-c.c c.index.result.now =
-    record { rising = c.requires.part.rising; there = col; is = column; within = within } in
-    placed_here (IsExtreme g.O.Order.before) c.loop-c.c part c.args.into.now c.loop-c.into c.index.result.now c.wide.result place
-    (subst (IsExtreme g.O.Order.before (λ (i : ℕ). cell_of codes tuples i c.loop-c.c) (length codes)) (sym c.wide.ensures) c.first_of_column.ensures)
-    c.loop-c.invariant
+    record {
+      made = λ d there. extreme_one g.O.Order.before g.O.Order.choice g.met.O.Order.laws
+          (λ (l : ℕ). value_of tuples l d) _
+          (c.place_first.ensures.made d there);
+      kept = c.place_first.ensures.kept;
+    }
+
+pub choose_in_tuple-requires-clause-within : goal.choose_in_tuple-requires-clause-within
+choose_in_tuple-requires-clause-within g c place there =
+    omega (arith, c.requires.within place there, c.loop-k.auto.into)
+
+pub loop-k-preserved : goal.loop-k-preserved
+loop-k-preserved g c = record {
+  made = c.choose_in_tuple.ensures.made;
+  kept = λ j none. c.choose_in_tuple.ensures.kept j none ∙ c.loop-k.invariant.kept j none;
+}
 
 pub returns : goal.returns
 returns g c =
-    let part = part_of g.G.Group.codes g.G.Group.dictionary c.args.part.now in
-    let wide = same_width _ _ _ _ _ (g.met.G.Group.laws c.args.part.now.group) c.requires.part.group in
-    let all : c.loop-c.c ≡ length part.columns = omega (arith, c.loop-c-test.false, c.width-c-end.ensures, c.loop-c.auto.c-end, wide) in
-    record { made = λ d there. c.loop-c.invariant.made d (omega (arith, there, all)); kept = c.loop-c.invariant.kept }
+    let codes = g.G.Group.codes c.args.part.now.group in
+    let tuples = g.G.Group.dictionary c.args.part.now.group in
+    let columns = c.args.part.now.columns.items in
+    let laws = g.met.G.Group.laws c.args.part.now.group in
+    let some = laws.in_tuples 0 (omega (arith, laws.a_row)) in
+    let all : c.loop-k.k ≡ length tuples =
+    omega (arith, c.loop-k-test.false, c.tuples-k-end.ensures, c.loop-k.auto.k-end, some) in
+    record {
+      made = λ d there. (let f = λ (l : ℕ). value_of tuples l d in
+          let v = at c.loop-k.into (column_at columns d) in
+          (extremes_regroup (length tuples) codes g.O.Order.before f v (codes_of_group _ _ _ _ laws)).1
+          (subst (λ (n : ℕ). IsExtreme g.O.Order.before f n v) all (c.loop-k.invariant.made d there)));
+      kept = c.loop-k.invariant.kept;
+    }

@@ -4,4 +4,5 @@ use Rattle.cla_agg.proofs.extreme.first_of_table.Given as goal
 
 -- the parts before q
 abbrev pub invariant-loop-q : goal.invariant-loop-q
-invariant-loop-q g l = IsFirstOfParts g.O.Order.before (parts_of g.G.Group.codes g.G.Group.dictionary l.m.parts) l.q (g.N.Number.value l.first)
+invariant-loop-q g l = IsFirstOfParts g.O.Order.before (parts_of g.G.Group.codes g.G.Group.dictionary l.m.parts) l.q
+    (g.N.Number.value l.first)

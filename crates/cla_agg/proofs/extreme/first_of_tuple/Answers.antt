@@ -8,4 +8,5 @@ pub loop-c-preserved : goal.loop-c-preserved
 loop-c-preserved g c =
     let f = value_of (g.G.Group.dictionary c.args.g.now) c.args.k in
     subst (IsExtreme g.O.Order.before f (c.loop-c.c + 1)) (sym c.chosen-first.ensures)
-    (extreme_more g.O.Order.before g.O.Order.choice g.met.O.Order.laws f c.loop-c.c (g.N.Number.value c.loop-c.first) (g.N.Number.value c.value.result) c.value.ensures c.loop-c.invariant)
+    (extreme_more g.O.Order.before g.O.Order.choice g.met.O.Order.laws f c.loop-c.c (g.N.Number.value c.loop-c.first)
+    (g.N.Number.value c.value.result) c.value.ensures c.loop-c.invariant)

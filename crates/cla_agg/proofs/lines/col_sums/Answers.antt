@@ -12,8 +12,10 @@ returns-then-flipped-clause-sums g c =
     let base = layout_of g.G.Group.codes g.G.Group.dictionary m in
     let turned : true ≡ m.flipped = c.if-flipped.ensures in
     let count = c.cols.ensures ∙ ap (λ (b : Bool). cond b m.rows m.cols) (sym turned) in
-    subst (λ (b : Bool). AnswersMatrix g.N.Number.BITS 1 (cond b m.rows m.cols) (col_sums_entry (cond b m.cols m.rows) (entry_as b base)) c.sums_of_rows.result) turned
-    (answer_row g.N.Number.BITS m.rows c.cols.result (row_sum m.cols (entry_in base.parts)) c.sums_of_rows.result count c.sums_of_rows.ensures)
+    subst (λ (b : Bool). AnswersMatrix g.N.Number.BITS 1 (cond b m.rows m.cols)
+    (col_sums_entry (cond b m.cols m.rows) (entry_as b base)) c.sums_of_rows.result) turned
+    (answer_row g.N.Number.BITS m.rows c.cols.result (row_sum m.cols (entry_in base.parts)) c.sums_of_rows.result count
+    c.sums_of_rows.ensures)
 
 pub returns-else-flipped-clause-sums : goal.returns-else-flipped-clause-sums
 returns-else-flipped-clause-sums g c =
@@ -21,5 +23,7 @@ returns-else-flipped-clause-sums g c =
     let base = layout_of g.G.Group.codes g.G.Group.dictionary m in
     let plain : false ≡ m.flipped = c.if-flipped.ensures in
     let count = c.cols-else-flipped.ensures ∙ ap (λ (b : Bool). cond b m.rows m.cols) (sym plain) in
-    subst (λ (b : Bool). AnswersMatrix g.N.Number.BITS 1 (cond b m.rows m.cols) (col_sums_entry (cond b m.cols m.rows) (entry_as b base)) c.sums_of_columns.result) plain
-    (answer_row g.N.Number.BITS m.cols c.cols-else-flipped.result (col_sum m.rows (entry_in base.parts)) c.sums_of_columns.result count c.sums_of_columns.ensures.sums)
+    subst (λ (b : Bool). AnswersMatrix g.N.Number.BITS 1 (cond b m.rows m.cols)
+    (col_sums_entry (cond b m.cols m.rows) (entry_as b base)) c.sums_of_columns.result) plain
+    (answer_row g.N.Number.BITS m.cols c.cols-else-flipped.result (col_sum m.rows (entry_in base.parts))
+    c.sums_of_columns.result count c.sums_of_columns.ensures.sums)

@@ -17,9 +17,11 @@ narrowed-requires-clause-small g c p there =
     let into = c.choose_in_columns.new.into in
     let zeros = c.in_ok-firsts.firsts in
     let kept : length into ≡ zeros.len = c.choose_in_columns.auto.into ∙ c.deref_mut.ensures.len in
-    let back : c.deref.result.now ≡ into = c.deref.ensures.value ∙ take_at into (drop (length into) zeros.items) zeros.len kept in
+    let back : c.deref.result.now ≡ into = c.deref.ensures.value
+    ∙ take_at into (drop (length into) zeros.items) zeros.len kept in
     let long : length c.deref.result.now ≡ m.cols =
-    ap (λ (cells : List ℤ). length cells) back ∙ c.choose_in_columns.auto.into ∙ ap (λ (cells : List ℤ). length cells) c.deref_mut.ensures.value
+    ap (λ (cells : List ℤ). length cells) back ∙ c.choose_in_columns.auto.into
+    ∙ ap (λ (cells : List ℤ). length cells) c.deref_mut.ensures.value
     ∙ c.in_ok-firsts.ensures.count ∙ line_count m.cols c.args.rows c.args.cols c.requires.line in
     let place : p < m.cols = omega (arith, there, long) in
     subst (λ (cells : List ℤ). InRange g.N.Number.BITS (at cells p)) (sym back)
@@ -33,12 +35,15 @@ returns g c =
     let into = c.choose_in_columns.new.into in
     let zeros = c.in_ok-firsts.firsts in
     let kept : length into ≡ zeros.len = c.choose_in_columns.auto.into ∙ c.deref_mut.ensures.len in
-    let back : c.deref.result.now ≡ into = c.deref.ensures.value ∙ take_at into (drop (length into) zeros.items) zeros.len kept in
-    let cells : c.new.result.cells ≡ into = ap (λ (d : Matrix). d.cells) c.new.ensures ∙ c.in_ok-narrowed.ensures ∙ back in
+    let back : c.deref.result.now ≡ into = c.deref.ensures.value
+    ∙ take_at into (drop (length into) zeros.items) zeros.len kept in
+    let cells : c.new.result.cells ≡ into = ap (λ (d : Matrix). d.cells) c.new.ensures ∙ c.in_ok-narrowed.ensures
+    ∙ back in
     let count = line_count m.cols c.args.rows c.args.cols c.requires.line in
     record {
       height = ap (λ (d : Matrix). d.rows) c.new.ensures;
       width = ap (λ (d : Matrix). d.cols) c.new.ensures;
       each = λ p lt. (let place : p < m.cols = omega (arith, lt, count) in
-          subst (λ (xs : List ℤ). IsExtreme g.O.Order.before (λ (i : ℕ). entry i p) m.rows (at xs p)) (sym cells) (c.choose_in_columns.ensures.firsts p place));
+          subst (λ (xs : List ℤ). IsExtreme g.O.Order.before (λ (i : ℕ). entry i p) m.rows (at xs p)) (sym cells)
+          (c.choose_in_columns.ensures.firsts p place));
     }

@@ -16,8 +16,11 @@ returns-then-flipped g c =
     let turned : true ≡ m.flipped = c.if-flipped.ensures in
     let n = c.cols.result in
     let count = c.cols.ensures ∙ ap (λ (b : Bool). cond b m.rows m.cols) (sym turned) in
-    subst (λ (b : Bool). IfOk c.firsts_of_rows.result (λ d. AreColExtremes before (cond b m.cols m.rows) (cond b m.rows m.cols) (entry_as b base) d)) turned
-    (if_ok (HasCells (λ p v. IsExtreme before (entry_in base.parts p) m.cols v) 1 n) (AreColExtremes before m.cols m.rows entry) c.firsts_of_rows.result
+    subst
+    (λ (b : Bool). IfOk c.firsts_of_rows.result
+    (λ d. AreColExtremes before (cond b m.cols m.rows) (cond b m.rows m.cols) (entry_as b base) d)) turned
+    (if_ok (HasCells (λ p v. IsExtreme before (entry_in base.parts p) m.cols v) 1 n)
+    (AreColExtremes before m.cols m.rows entry) c.firsts_of_rows.result
     (λ d has. col_extremes before n m.cols m.rows entry d count has) c.firsts_of_rows.ensures)
 
 pub returns-else-flipped : goal.returns-else-flipped
@@ -29,6 +32,9 @@ returns-else-flipped g c =
     let plain : false ≡ m.flipped = c.if-flipped.ensures in
     let n = c.cols-else-flipped.result in
     let count = c.cols-else-flipped.ensures ∙ ap (λ (b : Bool). cond b m.rows m.cols) (sym plain) in
-    subst (λ (b : Bool). IfOk c.firsts_of_columns.result (λ d. AreColExtremes before (cond b m.cols m.rows) (cond b m.rows m.cols) (entry_as b base) d)) plain
-    (if_ok (HasCells (λ p v. IsExtreme before (λ (i : ℕ). entry i p) m.rows v) 1 n) (AreColExtremes before m.rows m.cols entry) c.firsts_of_columns.result
+    subst
+    (λ (b : Bool). IfOk c.firsts_of_columns.result
+    (λ d. AreColExtremes before (cond b m.cols m.rows) (cond b m.rows m.cols) (entry_as b base) d)) plain
+    (if_ok (HasCells (λ p v. IsExtreme before (λ (i : ℕ). entry i p) m.rows v) 1 n)
+    (AreColExtremes before m.rows m.cols entry) c.firsts_of_columns.result
     (λ d has. col_extremes before n m.rows m.cols entry d count has) c.firsts_of_columns.ensures)

@@ -16,8 +16,11 @@ returns-then-flipped g c =
     let turned : true ≡ m.flipped = c.if-flipped.ensures in
     let n = c.rows.result in
     let count = c.rows.ensures ∙ ap (λ (b : Bool). cond b m.cols m.rows) (sym turned) in
-    subst (λ (b : Bool). IfOk c.firsts_of_columns.result (λ d. AreRowExtremes before (cond b m.cols m.rows) (cond b m.rows m.cols) (entry_as b base) d)) turned
-    (if_ok (HasCells (λ p v. IsExtreme before (λ (i : ℕ). entry_in base.parts i p) m.rows v) n 1) (AreRowExtremes before m.cols m.rows entry) c.firsts_of_columns.result
+    subst
+    (λ (b : Bool). IfOk c.firsts_of_columns.result
+    (λ d. AreRowExtremes before (cond b m.cols m.rows) (cond b m.rows m.cols) (entry_as b base) d)) turned
+    (if_ok (HasCells (λ p v. IsExtreme before (λ (i : ℕ). entry_in base.parts i p) m.rows v) n 1)
+    (AreRowExtremes before m.cols m.rows entry) c.firsts_of_columns.result
     (λ d has. row_extremes before n m.cols m.rows entry d count has) c.firsts_of_columns.ensures)
 
 pub returns-else-flipped : goal.returns-else-flipped
@@ -29,6 +32,9 @@ returns-else-flipped g c =
     let plain : false ≡ m.flipped = c.if-flipped.ensures in
     let n = c.rows-else-flipped.result in
     let count = c.rows-else-flipped.ensures ∙ ap (λ (b : Bool). cond b m.cols m.rows) (sym plain) in
-    subst (λ (b : Bool). IfOk c.firsts_of_rows.result (λ d. AreRowExtremes before (cond b m.cols m.rows) (cond b m.rows m.cols) (entry_as b base) d)) plain
-    (if_ok (HasCells (λ p v. IsExtreme before (entry p) m.cols v) n 1) (AreRowExtremes before m.rows m.cols entry) c.firsts_of_rows.result
+    subst
+    (λ (b : Bool). IfOk c.firsts_of_rows.result
+    (λ d. AreRowExtremes before (cond b m.cols m.rows) (cond b m.rows m.cols) (entry_as b base) d)) plain
+    (if_ok (HasCells (λ p v. IsExtreme before (entry p) m.cols v) n 1) (AreRowExtremes before m.rows m.cols entry)
+    c.firsts_of_rows.result
     (λ d has. row_extremes before n m.rows m.cols entry d count has) c.firsts_of_rows.ensures)

@@ -15,7 +15,10 @@ returns-clause-sums g c =
     let into = c.add_columns.new.into in
     let zeros = c.in-Ok-zeros.sums in
     let kept : length into ≡ zeros.len = c.add_columns.auto.into ∙ c.deref_mut.ensures.len in
-    let back : c.deref.result.now ≡ into = c.deref.ensures.value ∙ take_at into (drop (length into) zeros.items) zeros.len kept in
-    answer_same g.N.Number.BITS c.args.rows cols (cells_at cols c.deref.result.now) (λ i j. sum (i * cols + j)) c.matrix_of.result
+    let back : c.deref.result.now ≡ into = c.deref.ensures.value
+    ∙ take_at into (drop (length into) zeros.items) zeros.len kept in
+    answer_same g.N.Number.BITS c.args.rows cols (cells_at cols c.deref.result.now) (λ i j. sum (i * cols + j))
+    c.matrix_of.result
     (λ i j row col. ap (λ (cells : List ℤ). at cells (i * cols + j)) back
-    ∙ c.add_columns.ensures.sums (i * cols + j) (line_place m.cols c.args.rows cols i j c.requires.line row col)) c.matrix_of.ensures
+    ∙ c.add_columns.ensures.sums (i * cols + j) (line_place m.cols c.args.rows cols i j c.requires.line row col))
+    c.matrix_of.ensures

@@ -15,7 +15,10 @@ returns g c =
     let into = c.add_rows.new.into in
     let zeros = c.in-Ok-zeros-2.sums in
     let kept : length into ≡ zeros.len = c.add_rows.auto.into ∙ c.deref_mut-2.ensures.len in
-    let back : c.deref.result.now ≡ into = c.deref.ensures.value ∙ take_at into (drop (length into) zeros.items) zeros.len kept in
-    answer_same g.N.Number.BITS c.args.rows cols (cells_at cols c.deref.result.now) (λ i j. sum (i * cols + j)) c.matrix_of.result
+    let back : c.deref.result.now ≡ into = c.deref.ensures.value
+    ∙ take_at into (drop (length into) zeros.items) zeros.len kept in
+    answer_same g.N.Number.BITS c.args.rows cols (cells_at cols c.deref.result.now) (λ i j. sum (i * cols + j))
+    c.matrix_of.result
     (λ i j row col. ap (λ (cells : List ℤ). at cells (i * cols + j)) back
-    ∙ c.add_rows.ensures.sums (i * cols + j) (line_place m.rows c.args.rows cols i j c.requires.line row col)) c.matrix_of.ensures
+    ∙ c.add_rows.ensures.sums (i * cols + j) (line_place m.rows c.args.rows cols i j c.requires.line row col))
+    c.matrix_of.ensures

@@ -26,6 +26,7 @@ returns g c =
     let end : c.loop-place.place ≡ length cells = omega (arith, all, c.loop-place.auto.place-end) in (
       kept,
       all_numbers g.N.Number.BITS c.args.rows c.args.cols cells c.requires.shape
-          (λ q there. kept_ranged g.N.Number.BITS g.N.Number.value g.met.N.Number.in_range c.loop-place.numbers.items cells c.loop-place.place
+          (λ q there. kept_ranged g.N.Number.BITS g.N.Number.value g.met.N.Number.in_range c.loop-place.numbers.items
+          cells c.loop-place.place
           (omega (arith, end)) c.loop-place.invariant q (omega (arith, there, end))),
     )

@@ -8,12 +8,16 @@ slice_bounds-sums-end g c =
     omega (arith, tuples_few _ _ _ _ (g.met.G.Group.laws c.args.g.now), c.tuples.ensures, c.requires.scratch)
 
 pub slice_bounds-sums-end-2 : goal.slice_bounds-sums-end-2
-slice_bounds-sums-end-2 g c = sym (tuple_places _ _ _ _ (g.met.G.Group.laws c.args.g.now) c.args.scratch.now c.tuples.result c.tuples.ensures c.requires.scratch)
+slice_bounds-sums-end-2 g c =
+    sym (tuple_places _ _ _ _ (g.met.G.Group.laws c.args.g.now) c.args.scratch.now c.tuples.result c.tuples.ensures
+    c.requires.scratch)
 
 pub add_tuples-requires-clause-tuples : goal.add_tuples-requires-clause-tuples
 add_tuples-requires-clause-tuples g c =
-    tuple_places _ _ _ _ (g.met.G.Group.laws c.args.g.now) c.args.scratch.now c.tuples.result c.tuples.ensures c.requires.scratch ∙ c.tuples.ensures
+    tuple_places _ _ _ _ (g.met.G.Group.laws c.args.g.now) c.args.scratch.now c.tuples.result c.tuples.ensures
+    c.requires.scratch ∙ c.tuples.ensures
 
 pub scatter-requires-clause-tuples : goal.scatter-requires-clause-tuples
 scatter-requires-clause-tuples g c =
-    c.add_tuples.auto.into ∙ tuple_places _ _ _ _ (g.met.G.Group.laws c.args.g.now) c.args.scratch.now c.tuples.result c.tuples.ensures c.requires.scratch ∙ c.tuples.ensures
+    c.add_tuples.auto.into ∙ tuple_places _ _ _ _ (g.met.G.Group.laws c.args.g.now) c.args.scratch.now c.tuples.result
+    c.tuples.ensures c.requires.scratch ∙ c.tuples.ensures

@@ -53,10 +53,12 @@ add_group-requires-clause-fits g c i there =
     group_row g.N.Number.BITS m.rows g.G.Group.columns codes dictionary part i (g.met.G.Group.laws part.group) read.is
     ∙ ap (part_row i) (sym read.same) in
     let sum : at c.loop-part.into i +ℤ more ≡ sum_over (part_row i) (take (q + 1) parts) =
-    ap (λ (z : ℤ). z +ℤ more) (c.loop-part.invariant i there) ∙ ap (λ (z : ℤ). sum_over (part_row i) (take q parts) +ℤ z) one
+    ap (λ (z : ℤ). z +ℤ more) (c.loop-part.invariant i there)
+    ∙ ap (λ (z : ℤ). sum_over (part_row i) (take q parts) +ℤ z) one
     ∙ sym (sum_over_more (part_row i) parts q read.within) in
     let row : i < m.rows = omega (arith, there, c.loop-part.auto.into, c.requires.rows) in
-    subst (FitsSigned w128) (sym sum) (fits_by_size _ (row_size g.N.Number.BITS (layout_of codes dictionary m) i (q + 1) c.requires.bits whole row))
+    subst (FitsSigned w128) (sym sum)
+    (fits_by_size _ (row_size g.N.Number.BITS (layout_of codes dictionary m) i (q + 1) c.requires.bits whole row))
 
 pub loop-part-preserved : goal.loop-part-preserved
 loop-part-preserved g c i there =
@@ -75,7 +77,8 @@ loop-part-preserved g c i there =
     ∙ ap (part_row i) (sym read.same) in
     let before : i < length c.loop-part.into = omega (arith, there, c.add_group.auto.into) in
     c.add_group.ensures i before ∙ ap (λ (z : ℤ). z +ℤ more) (c.loop-part.invariant i before)
-    ∙ ap (λ (z : ℤ). sum_over (part_row i) (take q parts) +ℤ z) one ∙ sym (sum_over_more (part_row i) parts q read.within)
+    ∙ ap (λ (z : ℤ). sum_over (part_row i) (take q parts) +ℤ z) one
+    ∙ sym (sum_over_more (part_row i) parts q read.within)
 
 pub returns-clause-sums : goal.returns-clause-sums
 returns-clause-sums g c i row =
@@ -84,5 +87,7 @@ returns-clause-sums g c i row =
     let dictionary = g.G.Group.dictionary in
     let there : i < length c.loop-part.into = omega (arith, row, c.loop-part.auto.into, c.requires.rows) in
     c.loop-part.invariant i there
-    ∙ ap (sum_over (part_row i)) (parts_read codes dictionary m _ c.loop-part.part-index c.parts-part-items.ensures.parts (λ lt. omega (arith, lt, c.loop-part-test.false)))
+    ∙ ap (sum_over (part_row i))
+    (parts_read codes dictionary m _ c.loop-part.part-index c.parts-part-items.ensures.parts
+    (λ lt. omega (arith, lt, c.loop-part-test.false)))
     ∙ row_is g.N.Number.BITS (layout_of codes dictionary m) i c.parts-part-items.ensures.whole

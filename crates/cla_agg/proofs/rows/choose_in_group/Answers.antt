@@ -9,15 +9,21 @@ slice_bounds-firsts-end g c =
     omega (arith, tuples_few _ _ _ _ (g.met.G.Group.laws c.args.g.now), c.tuples.ensures, c.requires.scratch)
 
 pub slice_bounds-firsts-end-2 : goal.slice_bounds-firsts-end-2
-slice_bounds-firsts-end-2 g c = sym (tuple_places _ _ _ _ (g.met.G.Group.laws c.args.g.now) c.args.scratch.now c.tuples.result c.tuples.ensures c.requires.scratch)
+slice_bounds-firsts-end-2 g c =
+    sym (tuple_places _ _ _ _ (g.met.G.Group.laws c.args.g.now) c.args.scratch.now c.tuples.result c.tuples.ensures
+    c.requires.scratch)
 
 pub choose_in_tuples-requires : goal.choose_in_tuples-requires
 choose_in_tuples-requires g c =
-    record { tuples = tuple_places _ _ _ _ (g.met.G.Group.laws c.args.g.now) c.args.scratch.now c.tuples.result c.tuples.ensures c.requires.scratch ∙ c.tuples.ensures }
+    record {
+      tuples = tuple_places _ _ _ _ (g.met.G.Group.laws c.args.g.now) c.args.scratch.now c.tuples.result
+          c.tuples.ensures c.requires.scratch ∙ c.tuples.ensures;
+    }
 
 pub scatter-requires-clause-tuples : goal.scatter-requires-clause-tuples
 scatter-requires-clause-tuples g c =
-    c.choose_in_tuples.auto.into ∙ tuple_places _ _ _ _ (g.met.G.Group.laws c.args.g.now) c.args.scratch.now c.tuples.result c.tuples.ensures c.requires.scratch ∙ c.tuples.ensures
+    c.choose_in_tuples.auto.into ∙ tuple_places _ _ _ _ (g.met.G.Group.laws c.args.g.now) c.args.scratch.now
+    c.tuples.result c.tuples.ensures c.requires.scratch ∙ c.tuples.ensures
 
 pub returns : goal.returns
 returns g c i there =

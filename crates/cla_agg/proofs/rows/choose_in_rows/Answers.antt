@@ -52,7 +52,8 @@ loop-q-init g c i there =
     (ap (get_or items 0) c.index-parts-0.is) in
     let row : i < length c.args.into.now = omega (arith, there, c.set_group.auto.into) in
     row_one g.O.Order.before (parts_of codes dictionary m.parts) i (at c.set_group.new.into i)
-    (group_row_first g.O.Order.before g.N.Number.BITS g.G.Group.columns codes dictionary m 0 part i _ (g.met.G.Group.laws part.group) read
+    (group_row_first g.O.Order.before g.N.Number.BITS g.G.Group.columns codes dictionary m 0 part i _
+    (g.met.G.Group.laws part.group) read
     (c.set_group.ensures i row))
 
 pub choose_in_group-requires-clause-rows : goal.choose_in_group-requires-clause-rows
@@ -96,8 +97,10 @@ loop-q-preserved g c i there =
     let row : i < length c.loop-q.into = omega (arith, there, c.choose_in_group.auto.into) in
     let next = c.choose_in_group.ensures i row in
     subst (IsFirstOfRow g.O.Order.before parts i (q + 1)) (sym next.2)
-    (row_more g.O.Order.before g.O.Order.choice g.met.O.Order.laws parts i q (at c.loop-q.into i) next.0 (c.loop-q.invariant i row)
-    (group_row_first g.O.Order.before g.N.Number.BITS g.G.Group.columns codes dictionary m q part i next.0 (g.met.G.Group.laws part.group) read next.1))
+    (row_more g.O.Order.before g.O.Order.choice g.met.O.Order.laws parts i q (at c.loop-q.into i) next.0
+    (c.loop-q.invariant i row)
+    (group_row_first g.O.Order.before g.N.Number.BITS g.G.Group.columns codes dictionary m q part i next.0
+    (g.met.G.Group.laws part.group) read next.1))
 
 pub returns-clause-firsts : goal.returns-clause-firsts
 returns-clause-firsts g c i row =
@@ -110,6 +113,7 @@ returns-clause-firsts g c i row =
     let some = a_part g.N.Number.BITS codes dictionary m whole in
     let all : c.loop-q.q ≡ length parts =
     omega (arith, c.loop-q-test.false, c.loop-q.auto.q-end, long, some, parts_count codes dictionary m.parts) in
-    let there : i < length c.loop-q.into = omega (arith, row, c.loop-q.auto.into, c.set_group.auto.into, c.requires.rows) in
+    let there : i < length c.loop-q.into =
+    omega (arith, row, c.loop-q.auto.into, c.set_group.auto.into, c.requires.rows) in
     row_first g.O.Order.before g.N.Number.BITS (layout_of codes dictionary m) i (at c.loop-q.into i) whole
     (subst (λ (n : ℕ). IsFirstOfRow g.O.Order.before parts i n (at c.loop-q.into i)) all (c.loop-q.invariant i there))

@@ -14,15 +14,21 @@ slice_bounds-firsts-end g c =
     omega (arith, tuples_few _ _ _ _ (g.met.G.Group.laws c.args.g.now), c.tuples.ensures, c.requires.scratch)
 
 pub slice_bounds-firsts-end-2 : goal.slice_bounds-firsts-end-2
-slice_bounds-firsts-end-2 g c = sym (tuple_places _ _ _ _ (g.met.G.Group.laws c.args.g.now) c.args.scratch.now c.tuples.result c.tuples.ensures c.requires.scratch)
+slice_bounds-firsts-end-2 g c =
+    sym (tuple_places _ _ _ _ (g.met.G.Group.laws c.args.g.now) c.args.scratch.now c.tuples.result c.tuples.ensures
+    c.requires.scratch)
 
 pub choose_in_tuples-requires : goal.choose_in_tuples-requires
 choose_in_tuples-requires g c =
-    record { tuples = tuple_places _ _ _ _ (g.met.G.Group.laws c.args.g.now) c.args.scratch.now c.tuples.result c.tuples.ensures c.requires.scratch ∙ c.tuples.ensures }
+    record {
+      tuples = tuple_places _ _ _ _ (g.met.G.Group.laws c.args.g.now) c.args.scratch.now c.tuples.result
+          c.tuples.ensures c.requires.scratch ∙ c.tuples.ensures;
+    }
 
 pub scatter-requires-clause-tuples : goal.scatter-requires-clause-tuples
 scatter-requires-clause-tuples g c =
-    c.choose_in_tuples.auto.into ∙ tuple_places _ _ _ _ (g.met.G.Group.laws c.args.g.now) c.args.scratch.now c.tuples.result c.tuples.ensures c.requires.scratch ∙ c.tuples.ensures
+    c.choose_in_tuples.auto.into ∙ tuple_places _ _ _ _ (g.met.G.Group.laws c.args.g.now) c.args.scratch.now
+    c.tuples.result c.tuples.ensures c.requires.scratch ∙ c.tuples.ensures
 
 pub scatter-requires-clause-fits : goal.scatter-requires-clause-fits
 scatter-requires-clause-fits g c i there =
@@ -46,6 +52,8 @@ returns g c i there =
     let k = code_of codes i in
     let tuple = (g.met.G.Group.laws c.args.g.now).in_tuples i row in
     let v = at c.choose_in_tuples.new.into k in
-    let is : at c.scatter.new.into i ≡ v = c.scatter.ensures i row ∙ ap (λ (z : ℤ). z +ℤ v) (c.requires.zeros i) ∙ zero_plus v in
-    subst (IsExtreme g.O.Order.before (cell_of codes (g.G.Group.dictionary c.args.g.now) i) (g.G.Group.columns c.args.g.now)) (sym is)
+    let is : at c.scatter.new.into i ≡ v = c.scatter.ensures i row ∙ ap (λ (z : ℤ). z +ℤ v) (c.requires.zeros i)
+    ∙ zero_plus v in
+    subst (IsExtreme g.O.Order.before (cell_of codes (g.G.Group.dictionary c.args.g.now) i)
+    (g.G.Group.columns c.args.g.now)) (sym is)
     (c.choose_in_tuples.ensures k tuple)

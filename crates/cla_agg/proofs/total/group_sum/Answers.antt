@@ -10,14 +10,24 @@ tuple_sum-requires-clause-room g c =
     let laws = g.met.G.Group.laws c.args.g.now in
     let width = g.G.Group.columns c.args.g.now in
     let few = values_few _ _ _ _ laws in
-    let before : c.loop-k.k ≤ length (g.G.Group.dictionary c.args.g.now) = omega (arith, c.loop-k-test.true, c.tuples-k-end.ensures) in
-    rw c.loop-k.invariant.counts (record { mults = omega (arith, c.requires.room.mults, few, mul-le-mul_right width before); maps = omega (arith, c.requires.room.maps) })
+    let before : c.loop-k.k ≤ length (g.G.Group.dictionary c.args.g.now) =
+    omega (arith, c.loop-k-test.true, c.tuples-k-end.ensures) in
+    rw c.loop-k.invariant.counts
+    (record {
+      mults = omega (arith, c.requires.room.mults, few, mul-le-mul_right width before);
+      maps = omega (arith, c.requires.room.maps);
+    })
 
 pub plus-sum-requires : goal.plus-sum-requires
 plus-sum-requires g c =
     let laws = g.met.G.Group.laws c.args.g.now in
     rw (c.loop-k.invariant.sum, c.tuple_sum.ensures.sum)
-    (fits_by_size _ (omega (arith, total_size _ _ _ _ laws c.requires.bits (suc c.loop-k.k) (omega (arith, c.loop-k-test.true, c.tuples-k-end.ensures)))))
+    (fits_by_size _
+    (omega (
+      arith,
+      total_size _ _ _ _ laws c.requires.bits (suc c.loop-k.k)
+          (omega (arith, c.loop-k-test.true, c.tuples-k-end.ensures)),
+    )))
 
 pub returns-clause-sum : goal.returns-clause-sum
 returns-clause-sum g c =
@@ -25,5 +35,7 @@ returns-clause-sum g c =
     let codes = g.G.Group.codes c.args.g.now in
     let tuples = g.G.Group.dictionary c.args.g.now in
     let width = g.G.Group.columns c.args.g.now in
-    let all : c.loop-k.k ≡ length tuples = omega (arith, c.loop-k-test.false, c.tuples-k-end.ensures, c.loop-k.auto.k-end) in
-    c.loop-k.invariant.sum ∙ ap (sum_to (λ k. sum_to (occurring codes tuples k) width)) all ∙ sym (sum_by_tuples _ _ _ _ laws)
+    let all : c.loop-k.k ≡ length tuples =
+    omega (arith, c.loop-k-test.false, c.tuples-k-end.ensures, c.loop-k.auto.k-end) in
+    c.loop-k.invariant.sum ∙ ap (sum_to (λ k. sum_to (occurring codes tuples k) width)) all
+    ∙ sym (sum_by_tuples _ _ _ _ laws)

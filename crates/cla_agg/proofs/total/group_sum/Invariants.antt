@@ -6,6 +6,7 @@ use Rattle.cla_agg.proofs.total.group_sum.Given as goal
 -- the sum of the tuples before k, each counted
 abbrev pub invariant-loop-k : goal.invariant-loop-k
 invariant-loop-k g l = record {
-  sum : l.sum ≡ sum_to (λ k. sum_to (occurring (g.G.Group.codes l.g) (g.G.Group.dictionary l.g) k) (g.G.Group.columns l.g)) l.k;
+  sum : l.sum
+      ≡ sum_to (λ k. sum_to (occurring (g.G.Group.codes l.g) (g.G.Group.dictionary l.g) k) (g.G.Group.columns l.g)) l.k;
   counts : l.meter ≡ record l.fn.meter { mults = l.fn.meter.mults + l.k * g.G.Group.columns l.g };
 }

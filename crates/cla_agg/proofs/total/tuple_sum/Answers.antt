@@ -8,7 +8,12 @@ pub times-requires-clause-fits : goal.times-requires-clause-fits
 times-requires-clause-fits g c =
     let laws = g.met.G.Group.laws c.args.g.now in
     rw (c.value.ensures, c.count-count.ensures, c.occurrences.ensures)
-    (fits_by_size _ (omega (arith, occurring_size _ _ _ _ laws c.requires.bits c.args.k c.loop-c.c c.requires.tuple (omega (arith, c.loop-c-test.true, c.width-c-end.ensures)))))
+    (fits_by_size _
+    (omega (
+      arith,
+      occurring_size _ _ _ _ laws c.requires.bits c.args.k c.loop-c.c c.requires.tuple
+          (omega (arith, c.loop-c-test.true, c.width-c-end.ensures)),
+    )))
 
 pub plus-sum-requires : goal.plus-sum-requires
 plus-sum-requires g c =
@@ -19,5 +24,6 @@ plus-sum-requires g c =
       width_few _ _ _ _ laws,
       c.loop-c-test.true,
       c.width-c-end.ensures,
-      tuple_sum_size _ _ _ _ laws c.requires.bits c.args.k (suc c.loop-c.c) c.requires.tuple (omega (arith, c.loop-c-test.true, c.width-c-end.ensures)),
+      tuple_sum_size _ _ _ _ laws c.requires.bits c.args.k (suc c.loop-c.c) c.requires.tuple
+          (omega (arith, c.loop-c-test.true, c.width-c-end.ensures)),
     )))

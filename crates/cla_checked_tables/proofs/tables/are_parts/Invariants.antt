@@ -5,4 +5,5 @@ use Rattle.cla_checked_tables.proofs.tables.are_parts.Given as goal
 
 -- those before this one are parts
 abbrev pub invariant-loop-part : goal.invariant-loop-part
-invariant-loop-part g l = (q : ℕ) → q < l.part-index → IsPart 47 l.rows (part_at (parts_of g.G.Group.codes g.G.Group.dictionary l.parts) q)
+invariant-loop-part g l = (q : ℕ) → q < l.part-index →
+    IsPart 47 l.rows (part_at (parts_of g.G.Group.codes g.G.Group.dictionary l.parts) q)

@@ -9,9 +9,11 @@ pub loop-part-preserved : goal.loop-part-preserved
 loop-part-preserved g c =
     let parts = c.args.parts.now in
     let i = c.loop-part.part-index in
-    let more = columns_taken g.G.Group.codes g.G.Group.dictionary parts i c.part-item.result c.loop-part-test.true c.part-item.is in
+    let more = columns_taken g.G.Group.codes g.G.Group.dictionary parts i c.part-item.result c.loop-part-test.true
+    c.part-item.is in
     rw (c.in_ok-extend_from_slice.ensures.items, more, c.loop-part.invariant)
-    (ap (λ (xs : List ℕ). all_columns (take i (parts_of g.G.Group.codes g.G.Group.dictionary parts)) ++ xs) c.deref.ensures.value)
+    (ap (λ (xs : List ℕ). all_columns (take i (parts_of g.G.Group.codes g.G.Group.dictionary parts)) ++ xs)
+    c.deref.ensures.value)
 
 pub returns : goal.returns
 returns g c =

@@ -13,5 +13,6 @@ returns c =
       few_cells = omega arith;
       whole = omega (arith, div-add-mod' c.args.values c.args.width);
       in_tuples = λ i there. (below i there).1;
-      used = λ k there. (let one = some k (omega (arith, there, counts.a_count_each)) in omega (arith, one.0, counts.count k there));
+      used = λ k there. (let one = some k (omega (arith, there, counts.a_count_each)) in
+          omega (arith, one.0, counts.count k there));
     }

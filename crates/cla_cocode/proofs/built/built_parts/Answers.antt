@@ -1,12 +1,13 @@
-use Rattle.std.proofs.Common.{[], ◌∷◌, length, sym, ap, ◌∙◌, subst}
-use Rattle.std.proofs.lemmas.List.{get_or-map, map-append}
+use Rattle.std.proofs.Common.{[], ◌∷◌, ◌++◌, length, map, sym, ap, ◌∙◌, subst}
+use Rattle.std.proofs.lemmas.List.{get_or-map, map-append, length-map}
 use Rattle.cla_layout.specs.Groups.{IsGroup}
 use Rattle.cla_grouping.specs.Tuples.{AreColumns}
 use Rattle.cla_coded.specs.AnyGroups.{any_codes, any_dictionary, any_form}
 use Rattle.cla_coded.specs.Parts.{part_of, parts_of}
 use Rattle.cla_coded.proofs.Outlines.{mapped_more}
 use Rattle.cla_cocode.specs.declared.cut.LayoutGroup.{LayoutGroup}
-use Rattle.cla_cocode.specs.Built.{IsBuilt, AreBuilt, HasEntries}
+use Rattle.cla_cocode.specs.Built.{IsBuilt, AreBuilt, AreInForm, HasEntries}
+use Rattle.cla_cocode.proofs.Forms.{form-push}
 use Rattle.cla_cocode.proofs.PartLemmas.{built-push}
 use Rattle.cla_cocode.proofs.built.built_parts.Goals as goal
 
@@ -40,4 +41,8 @@ loop-group-preserved g c =
           c.loop-group.invariant.kinds made.kind;
       built = subst (AreBuilt g.N.Number.BITS c.args.m.now) (sym (map-append (part_of any_codes any_dictionary) done (next ∷ [])))
           (built-push (IsBuilt g.N.Number.BITS c.args.m.now) (parts_of any_codes any_dictionary done) _ c.loop-group.invariant.built is);
+      in_form = subst (λ fs. AreInForm fs (parts_of any_codes any_dictionary (done ++ next ∷ []))) (sym (map-append (λ p. any_form p.group) done (next ∷ [])))
+          (subst (AreInForm _) (sym (map-append (part_of any_codes any_dictionary) done (next ∷ [])))
+          (form-push (map (λ p. any_form p.group) done) (parts_of any_codes any_dictionary done) _ _
+          (length-map done (λ p. any_form p.group) ∙ sym (length-map done (part_of any_codes any_dictionary))) c.loop-group.invariant.in_form made.in_form));
     })

@@ -14,9 +14,9 @@ returns-in_default c =
     let apart = c.args.group.now.best.bytes + c.args.single.now.best.bytes in
     let most = c.most_tuples-most.result in
     let more : most < pairs_of a b = subst (CountGives most (pairs_of a b)) c.in_default.is c.in_ok-distinct.ensures in
-    let past = subst (λ f. IsPast f (apart - c.args.least) most) c.floor-floor.ensures.value c.most_tuples-most.ensures in
+    let past = subst (λ f. IsPast f (apart - c.args.least) most) c.least_union-bound.ensures.value c.most_tuples-most.ensures in
     no_more apart (best_bytes (figures_of (joined a b))) c.args.least
-    (past-union a b (apart - c.args.least) most c.floor-floor.ensures.first c.floor-floor.ensures.second c.requires.pair past more)
+    (past-union a b (apart - c.args.least) most c.least_union-bound.ensures.first c.least_union-bound.ensures.second c.requires.pair past more)
 
 pub best-joined-requires : goal.best-joined-requires
 best-joined-requires c =

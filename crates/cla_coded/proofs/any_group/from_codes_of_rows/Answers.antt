@@ -6,8 +6,13 @@ use Rattle.cla_coded.proofs.AnyRows.{two_bytes, four_bytes, codes_from}
 use Rattle.cla_coded.proofs.any_group.from_codes_of_rows.Goals as goal
 
 pub from_codes-requires-else-tuples-le-TWO_BYTES : goal.from_codes-requires-else-tuples-le-TWO_BYTES
-from_codes-requires-else-tuples-le-TWO_BYTES g c =
-    (omega arith, (c.requires, record { width = refl; few = omega (arith, tuples_few _ _ _ _ c.requires, codes_few _ _ _ _ c.requires) }))
+from_codes-requires-else-tuples-le-TWO_BYTES g c = (
+  omega arith,
+  (
+    c.requires,
+    record { width = refl; few = omega (arith, tuples_few _ _ _ _ c.requires, codes_few _ _ _ _ c.requires) },
+  ),
+)
 
 pub returns-in_ok-from_codes-2 : goal.returns-in_ok-from_codes-2
 returns-in_ok-from_codes-2 g c =

@@ -28,17 +28,21 @@ pub with_parts-requires : goal.with_parts-requires
 with_parts-requires g c =
     let view = outline any_columns any_codes in
     rw (sym c.parts-part-items.ensures.parts)
-    (mapped_all view view c.parts-part-items.result.now c.loop-part.part-index _ c.loop-part-test.false c.loop-part.invariant.outlines)
+    (mapped_all view view c.parts-part-items.result.now c.loop-part.part-index _ c.loop-part-test.false
+    c.loop-part.invariant.outlines)
 
 pub returns-clause-layout : goal.returns-clause-layout
 returns-clause-layout g c =
     let view = part_of any_codes any_dictionary in
-    let all = mapped_all view view c.parts-part-items.result.now c.loop-part.part-index _ c.loop-part-test.false c.loop-part.invariant.parts in
+    let all = mapped_all view view c.parts-part-items.result.now c.loop-part.part-index _ c.loop-part-test.false
+    c.loop-part.invariant.parts in
     rw c.with_parts.ensures
-    (ap (λ parts. layout_with c.args.m.now.rows c.args.m.now.cols parts) (all ∙ ap (map view) c.parts-part-items.ensures.parts))
+    (ap (λ parts. layout_with c.args.m.now.rows c.args.m.now.cols parts) (all
+    ∙ ap (map view) c.parts-part-items.ensures.parts))
 
 pub returns-clause-forms : goal.returns-clause-forms
 returns-clause-forms g c =
-    let all = mapped_all (λ part. any_form part.group) _ c.parts-part-items.result.now c.loop-part.part-index _ c.loop-part-test.false
+    let all = mapped_all (λ part. any_form part.group) _ c.parts-part-items.result.now c.loop-part.part-index _
+    c.loop-part-test.false
     c.loop-part.invariant.forms in
     rw c.with_parts.ensures (all ∙ ap (map (λ part. any_form part.group)) c.parts-part-items.ensures.parts)

@@ -15,7 +15,8 @@ project-requires g c =
 pub returns-clause-part : goal.returns-clause-part
 returns-clause-part g c =
     let group = c.args.part.now.group in
-    let kept = rw (c.deref-2.ensures.value, c.in_ok-places.ensures, c.width.ensures) at c.in_ok-group.ensures.dictionary in
+    let kept = rw (c.deref-2.ensures.value, c.in_ok-places.ensures, c.width.ensures) at c.in_ok-group.ensures.dictionary
+    in
     rw (
       c.in_ok-columns.ensures.items ∙ c.deref.ensures.value,
       c.in_ok-group.ensures.codes,
@@ -25,5 +26,10 @@ returns-clause-part g c =
 pub returns-clause-outline : goal.returns-clause-outline
 returns-clause-outline g c =
     let group = c.args.part.now.group in
-    let width = rw (c.deref-2.ensures.value, c.in_ok-places.ensures, c.width.ensures) at c.in_ok-group.ensures.columns in
-    rw (c.in_ok-columns.ensures.items ∙ c.deref.ensures.value, width ∙ rows_count (any_columns group), c.in_ok-group.ensures.codes) refl
+    let width = rw (c.deref-2.ensures.value, c.in_ok-places.ensures, c.width.ensures) at c.in_ok-group.ensures.columns
+    in
+    rw (
+      c.in_ok-columns.ensures.items ∙ c.deref.ensures.value,
+      width ∙ rows_count (any_columns group),
+      c.in_ok-group.ensures.codes,
+    ) refl

@@ -11,10 +11,12 @@ use Rattle.cla_coded.proofs.coded.loose.Given.{Over}
 
 -- the layout of the one part
 layout : (g : Over) (c : In_ok-push g)
-    → layout_with c.rows-rows.result c.cols-cols.result (parts_of any_codes any_dictionary c.push.new.self.items) ≡ loose_layout c.args.m
+    → layout_with c.rows-rows.result c.cols-cols.result (parts_of any_codes any_dictionary c.push.new.self.items)
+    ≡ loose_layout c.args.m
 layout g c =
     let m = c.args.m in
-    let rows : length c.from.result.items / m.cols ≡ m.rows = rows_of_shape m.rows m.cols c.from.result.items c.from.ensures.shape in
+    let rows : length c.from.result.items / m.cols ≡ m.rows =
+    rows_of_shape m.rows m.cols c.from.result.items c.from.ensures.shape in
     one_plain_part m c.rows-rows.result c.cols-cols.result
     (parts_of any_codes any_dictionary c.push.new.self.items) _ _ _ c.rows-rows.ensures c.cols-cols.ensures
     (rw (c.in_ok-push.ensures.items, c.in_ok-parts.ensures.items) refl)
@@ -24,7 +26,10 @@ layout g c =
 
 pub from_rows-requires : goal.from_rows-requires
 from_rows-requires g c =
-    record { rows = rw c.cols-cols.ensures (whole_rows c.args.m.rows c.args.m.cols c.from.result.items c.from.ensures.shape) }
+    record {
+      rows =
+          rw c.cols-cols.ensures (whole_rows c.args.m.rows c.args.m.cols c.from.result.items c.from.ensures.shape);
+    }
 
 pub new-requires : goal.new-requires
 new-requires g c =

@@ -6,4 +6,5 @@ use Rattle.cla_coded.proofs.dense.write_parts.Given as goal
 -- the columns of the parts so far
 abbrev pub invariant-loop-part : goal.invariant-loop-part
 invariant-loop-part g l =
-    PartsWrittenTo l.shape (parts_of g.G.Group.codes g.G.Group.dictionary l.parts) l.part-index (map g.N.Number.value l.cells)
+    PartsWrittenTo l.shape (parts_of g.G.Group.codes g.G.Group.dictionary l.parts) l.part-index
+    (map g.N.Number.value l.cells)

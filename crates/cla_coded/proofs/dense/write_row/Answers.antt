@@ -17,7 +17,8 @@ loop-c-preserved g c =
     let column : c.index.result.now ≡ column_at columns c.loop-c.c =
     column_read columns c.loop-c.c c.index.result.now c.index.ensures there in
     rw (map-set value c.loop-c.cells c.place.result c.value.result)
-    (column_step c.args.shape columns (value_of (g.G.Group.dictionary part.group) c.args.k) c.args.i c.loop-c.c c.place.result
+    (column_step c.args.shape columns (value_of (g.G.Group.dictionary part.group) c.args.k) c.args.i c.loop-c.c
+    c.place.result
     (value c.value.result) (map value c.args.cells.now) (map value c.loop-c.cells)
     c.requires.part.is.rising there c.requires.row (c.requires.part.columns c.loop-c.c there)
     (rw column at c.place.ensures.place) c.value.ensures

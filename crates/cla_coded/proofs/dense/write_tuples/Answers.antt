@@ -19,6 +19,7 @@ pub loop-k-preserved : goal.loop-k-preserved
 loop-k-preserved g c =
     let part = part_of g.G.Group.codes g.G.Group.dictionary c.args.part.now in
     let value = g.N.Number.value in
-    tuple_step g.N.Number.BITS c.args.shape part c.loop-k.k c.first_row.result (map value c.args.cells.now) (map value c.loop-k.cells)
+    tuple_step g.N.Number.BITS c.args.shape part c.loop-k.k c.first_row.result (map value c.args.cells.now)
+    (map value c.loop-k.cells)
     (map value c.write_row.new.cells) c.requires.part.is c.requires.own
     (omega (arith, c.loop-k-test.true, c.requires.own)) c.first_row.ensures c.write_row.ensures c.loop-k.invariant

@@ -7,5 +7,6 @@ use Rattle.cla_coded.proofs.dense.write_tuples.Given as goal
 -- the rows of the tuples before k
 abbrev pub invariant-loop-k : goal.invariant-loop-k
 invariant-loop-k g l =
-    AreRowsWritten (λ r. ltb (code_of (g.G.Group.codes l.part.group) r) l.k) l.shape (part_of g.G.Group.codes g.G.Group.dictionary l.part)
+    AreRowsWritten (λ r. ltb (code_of (g.G.Group.codes l.part.group) r) l.k) l.shape
+    (part_of g.G.Group.codes g.G.Group.dictionary l.part)
     (map g.N.Number.value l.fn.cells) (map g.N.Number.value l.cells)

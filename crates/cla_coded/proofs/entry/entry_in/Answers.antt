@@ -20,9 +20,11 @@ returns-in-Some g c =
     let codes_of = g.G.Group.codes in
     let dictionary_of = g.G.Group.dictionary in
     let parts = c.args.parts.now in
-    let is = part_of_item codes_of dictionary_of parts c.loop-part.part-index c.part-item.result c.loop-part-test.true c.part-item.is in
+    let is = part_of_item codes_of dictionary_of parts c.loop-part.part-index c.part-item.result c.loop-part-test.true
+    c.part-item.is in
     let entry = entry_at (parts_of codes_of dictionary_of parts) c.loop-part.part-index c.args.i c.args.j
-    (rw (parts_count codes_of dictionary_of parts) c.loop-part-test.true) c.loop-part.invariant (rw is c.in-Some.ensures.0) in
+    (rw (parts_count codes_of dictionary_of parts) c.loop-part-test.true) c.loop-part.invariant
+    (rw is c.in-Some.ensures.0) in
     rw (entry, is) c.in-Some.ensures.1
 
 pub loop-part-preserved : goal.loop-part-preserved
@@ -30,7 +32,8 @@ loop-part-preserved g c q lt =
     let codes_of = g.G.Group.codes in
     let dictionary_of = g.G.Group.dictionary in
     let parts = c.args.parts.now in
-    let is = part_of_item codes_of dictionary_of parts c.loop-part.part-index c.part-item.result c.loop-part-test.true c.part-item.is in
+    let is = part_of_item codes_of dictionary_of parts c.loop-part.part-index c.part-item.result c.loop-part-test.true
+    c.part-item.is in
     elim (cases_eq q c.loop-part.part-index) [
       | inl same ↦ rw (same, is) c.in_default.ensures
       | inr other ↦ c.loop-part.invariant q (grind (arith, lt, other))
@@ -42,6 +45,8 @@ unreachable-requires g c =
     let dictionary_of = g.G.Group.dictionary in
     let parts = parts_of codes_of dictionary_of c.args.parts.now in
     let count = parts_count codes_of dictionary_of c.args.parts.now in
-    let none = nowhere_listed parts c.args.j (λ q lt. c.loop-part.invariant q (omega (arith, lt, count, c.loop-part-test.false))) in
+    let none =
+    nowhere_listed parts c.args.j
+    (λ q lt. c.loop-part.invariant q (omega (arith, lt, count, c.loop-part-test.false))) in
     let once = c.requires.2.partition.once c.args.j c.requires.4 in
     absurd (omega (arith, none, once))

@@ -5,5 +5,6 @@ use Rattle.cla_coded.proofs.entry.entry_in.Given as goal
 
 -- no part so far has the column
 abbrev pub invariant-loop-part : goal.invariant-loop-part
-invariant-loop-part g l = (q : ℕ) → q < l.part-index → has_column (part_at (parts_of g.G.Group.codes g.G.Group.dictionary l.parts) q) l.j
+invariant-loop-part g l = (q : ℕ) → q < l.part-index →
+    has_column (part_at (parts_of g.G.Group.codes g.G.Group.dictionary l.parts) q) l.j
     ≡ false

@@ -9,9 +9,16 @@ pub with_item-requires : goal.with_item-requires
 with_item-requires g c =
     let are = c.requires.so_far in
     let here = c.index-into-k.is ∙ get_or_default c.args.into.now c.args.k _ (pos 0) c.requires.place in
-    let size = gathered_size _ g.N.Number.value g.met.N.Number.in_range c.requires.bits are.0 c.args.rows.now c.args.k c.args.i
+    let size = gathered_size _ g.N.Number.value g.met.N.Number.in_range c.requires.bits are.0 c.args.rows.now c.args.k
+    c.args.i
     (omega (arith, c.requires.row)) in
-    record { bits = c.requires.bits; few = c.requires.few; row = c.requires.row; size = rw (here ∙ are.2 c.args.k c.requires.place) size }
+    record {
+      bits = c.requires.bits;
+      few = c.requires.few;
+      row = c.requires.row;
+      size =
+          rw (here ∙ are.2 c.args.k c.requires.place) size;
+    }
 
 pub returns : goal.returns
 returns g c = λ codes code so_far.

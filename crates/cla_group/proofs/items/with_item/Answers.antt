@@ -6,9 +6,18 @@ use Rattle.cla_group.proofs.items.with_item.Goals as goal
 
 pub plus-requires : goal.plus-requires
 plus-requires g c =
-    let item = value_size _ (g.N.Number.value c.index-rows-i.result) c.requires.bits (g.met.N.Number.in_range c.index-rows-i.result) in
+    let item = value_size _ (g.N.Number.value c.index-rows-i.result) c.requires.bits
+    (g.met.N.Number.in_range c.index-rows-i.result) in
     let sum = plus_size c.args.sum c.wide.result in
-    fits_by_size _ (omega (arith, sum, ap unsigned_abs c.wide.ensures, item, c.requires.size, c.requires.row, c.requires.few))
+    fits_by_size _ (omega (
+      arith,
+      sum,
+      ap unsigned_abs c.wide.ensures,
+      item,
+      c.requires.size,
+      c.requires.row,
+      c.requires.few,
+    ))
 
 pub returns-clause-sum : goal.returns-clause-sum
 returns-clause-sum g c =
@@ -18,6 +27,7 @@ returns-clause-sum g c =
 
 pub returns-clause-size : goal.returns-clause-size
 returns-clause-size g c =
-    let item = value_size _ (g.N.Number.value c.index-rows-i.result) c.requires.bits (g.met.N.Number.in_range c.index-rows-i.result) in
+    let item = value_size _ (g.N.Number.value c.index-rows-i.result) c.requires.bits
+    (g.met.N.Number.in_range c.index-rows-i.result) in
     let sum = plus_size c.args.sum c.wide.result in
     omega (arith, ap unsigned_abs c.plus.ensures, sum, ap unsigned_abs c.wide.ensures, item, c.requires.size)

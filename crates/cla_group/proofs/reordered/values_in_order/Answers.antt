@@ -23,5 +23,6 @@ loop-k-preserved g c =
           (omega (arith, length-append kept piece, c.loop-k.invariant.count, is.size, length-map piece value));
       so_far =
           rw (c.in_ok-extend_from_slice.ensures.items, map-append value kept piece)
-          (in_order_more width i order (map value values) (map value kept) (map value piece) size is c.loop-k.invariant.so_far);
+          (in_order_more width i order (map value values) (map value kept) (map value piece) size is
+          c.loop-k.invariant.so_far);
     }

@@ -14,7 +14,8 @@ tested : (g : Over) (c : After-is_nothing g) →
     int_eq (at (map g.N.Number.value c.args.tuple.now) c.loop-value.value-index) (pos 0) ≡ c.is_nothing.result
 tested g c =
     let value = g.N.Number.value in
-    ap (λ (z : ℤ). int_eq z (pos 0)) (get_or-map value c.args.tuple.now c.loop-value.value-index _ (pos 0) c.loop-value-test.true
+    ap (λ (z : ℤ). int_eq z (pos 0)) (get_or-map value c.args.tuple.now c.loop-value.value-index _ (pos 0)
+    c.loop-value-test.true
     ∙ ap value (sym c.value-item.is)) ∙ sym c.is_nothing.ensures
 
 pub returns-then-not-is_nothing : goal.returns-then-not-is_nothing
@@ -35,5 +36,12 @@ pub returns : goal.returns
 returns g c =
     let test = λ (v : ℤ). int_eq v (pos 0) in
     let tuple = map g.N.Number.value c.args.tuple.now in
-    sym (list_all-from_AllPass test tuple (All-from_get_or (λ v. test v ≡ true) tuple (pos 0) (λ p there. c.loop-value.invariant.zeros p
-    (omega (arith, there, length-map c.args.tuple.now g.N.Number.value, c.loop-value-test.false, c.loop-value.auto.value-index-end)))))
+    sym (list_all-from_AllPass test tuple
+    (All-from_get_or (λ v. test v ≡ true) tuple (pos 0) (λ p there. c.loop-value.invariant.zeros p
+    (omega (
+      arith,
+      there,
+      length-map c.args.tuple.now g.N.Number.value,
+      c.loop-value-test.false,
+      c.loop-value.auto.value-index-end,
+    )))))

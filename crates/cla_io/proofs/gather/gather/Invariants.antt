@@ -12,7 +12,8 @@ invariant-loop-window g l = record {
   no_fault : (g.F.Files.state l.files).read_faults ≡ (g.F.Files.state l.fn.files).read_faults;
   empty : items l.window ≡ [];
   none : HasNoLf l.line.items;
-  content : SameBytes (items l.fn.window) (left (g.F.Files.state l.fn.files)) l.line.items (left (g.F.Files.state l.files));
+  content : SameBytes (items l.fn.window) (left (g.F.Files.state l.fn.files)) l.line.items
+      (left (g.F.Files.state l.files));
 }
 
 -- how far the line may still grow

@@ -11,7 +11,8 @@ invariant-loop-window g l = record {
   frame : ReadsOn (g.F.Files.state l.fn.files) (g.F.Files.state l.files);
   no_fault : (g.F.Files.state l.files).read_faults ≡ (g.F.Files.state l.fn.files).read_faults;
   empty : items l.window ≡ [];
-  content : SameBytes (items l.fn.window) (left (g.F.Files.state l.fn.files)) l.all.items (left (g.F.Files.state l.files));
+  content : SameBytes (items l.fn.window) (left (g.F.Files.state l.fn.files)) l.all.items
+      (left (g.F.Files.state l.files));
 }
 
 -- how many bytes may still come

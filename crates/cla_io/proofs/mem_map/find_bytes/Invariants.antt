@@ -10,5 +10,6 @@ abbrev pub invariant-loop-key : goal.invariant-loop-key
 invariant-loop-key l = record {
   can_next : (goal.iterator-loop-key).can_next l.key-iterator;
   finite : (goal.iterator-loop-key).is_finite l.key-iterator;
-  same : fin.find (slice_cmp nat_cmp) l.name (told_items l.key-iterator) ≡ fin.find (slice_cmp nat_cmp) l.name (told_items l.files.entries);
+  same : fin.find (slice_cmp nat_cmp) l.name (told_items l.key-iterator)
+      ≡ fin.find (slice_cmp nat_cmp) l.name (told_items l.files.entries);
 }

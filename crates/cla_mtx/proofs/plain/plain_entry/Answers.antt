@@ -7,10 +7,10 @@ use Rattle.cla_mtx.proofs.plain.plain_entry.Goals as goal
 
 pub returns-in-Array-default-default-clause-exact : goal.returns-in-Array-default-default-clause-exact
 returns-in-Array-default-default-clause-exact g c =
-    let e = c.args.entries.now in
     let array = c.in-Array-default-default.is-0 in
-    let more : e.count < e.size.entries = omega (arith, c.requires.ready.few, c.if-entries.false) in
-    let is = next_is e.banner.symmetry e.size e.count e.next (c.requires.ready.next array more) in
+    let more : c.args.count < c.args.size.entries = omega (arith, c.requires.few, c.if-count-size.false) in
+    let is = next_is c.args.banner.symmetry c.args.size c.args.count c.args.next (c.requires.next array more) in
     let words = words_of (first_line c.args.bytes.now) in
-    let same = array_entry_is g.N.Number.BITS e.banner e.size e.count words (e.next.row, e.next.col) array is in
+    let same = array_entry_is g.N.Number.BITS c.args.banner c.args.size c.args.count words
+    (c.args.next.row, c.args.next.col) array is in
     rw same c.plain_array.ensures.exact

@@ -6,6 +6,7 @@ use Rattle.cla_offsets.proofs.walks.gather_codes.Given as goal
 -- the items before item j are added
 abbrev pub invariant-loop-j : goal.invariant-loop-j
 invariant-loop-j g l = record {
-  so_far : (all : List ℕ) → AreCodesFrom l.first l.codes all → AreGathered all (map g.N.Number.value l.rows) l.first l.fn.into →
+  so_far : (all : List ℕ) → AreCodesFrom l.first l.codes all →
+      AreGathered all (map g.N.Number.value l.rows) l.first l.fn.into →
       AreGathered all (map g.N.Number.value l.rows) (l.first + l.j) l.into;
 }

@@ -20,12 +20,14 @@ found xs x (Err i) is =
       | inl before ↦ absurd (omega (arith, same, is.1 k before))
       | inr after ↦ absurd (omega (arith, same, is.2 k after there))
     ] in
-    sym (list_any_none (λ o. eqb o x) xs (All-from_get_or (λ o. eqb o x ≡ false) xs 0 (λ k there. ne_eqb (code_of xs k) x (apart k there))))
+    sym (list_any_none (λ o. eqb o x) xs
+    (All-from_get_or (λ o. eqb o x ≡ false) xs 0 (λ k there. ne_eqb (code_of xs k) x (apart k there))))
 
 pub returns : goal.returns
 returns c =
     let list = c.args.list.now in
-    let rise : (m n : ℕ) → m ≤ n → n < length list → code_of list m ≤ code_of list n = λ m n order there. elim (cases_lt m n) [
+    let rise : (m n : ℕ) → m ≤ n → n < length list → code_of list m ≤ code_of list n =
+    λ m n order there. elim (cases_lt m n) [
       | inl before ↦ omega (arith, c.requires.rising m n before there)
       | inr after ↦ (let same : m ≡ n = omega (arith, order, after) in rw same (omega arith))
     ] in

@@ -1,89 +1,129 @@
-use Rattle.std.proofs.Common.{◌≡◌, ◌+◌, ◌-◌, ◌*◌, ℕ, true, length, map, take, drop, ap, subst, sym, ◌∙◌, arith}
-use Rattle.std.proofs.Math.Nat.{mul-le-mul_right}
-use Rattle.cla_layout.specs.Layouts.{IsWhole, layout_with}
-use Rattle.cla_coded.specs.Parts.{parts_of}
-use Rattle.cla_prod.specs.Lines.{line_times}
-use Rattle.cla_prod.specs.Sums.{values_from, self_values_to}
-use Rattle.cla_prod.proofs.LinesRead.{line_length, line_size, line_is}
-use Rattle.cla_prod.proofs.LinesWritten.{behind_line, put_length}
-use Rattle.cla_prod.proofs.Mirrors.{self_values_more, self_values_none, columns_few, upper_step}
+use Rattle.std.proofs.Common.{◌≡◌, ◌<◌, ◌≤◌, ◌+◌, ℕ, length, take, ap, subst, sym, ◌∙◌, arith}
+use Rattle.std.proofs.lemmas.List.{take_all}
+use Rattle.cla_layout.specs.Layouts.{LayoutPart, part_at}
+use Rattle.cla_coded.specs.Parts.{part_of, parts_of}
+use Rattle.cla_coded.proofs.Outlines.{part_of_item, parts_count}
+use Rattle.cla_prod.specs.Squares.{AreMultiplied, listed_values}
+use Rattle.cla_prod.proofs.Mirrors.{one_part, none_multiplied, parts_multiplied, next_lines, all_multiplied, parts_values, parts_values_more, parts_values_few, parts_values_all}
 use Rattle.cla_prod.proofs.squares.times_columns.Goals as goal
 
-pub loop-first-init : goal.loop-first-init
-loop-first-init g c =
+pub loop-part-init : goal.loop-part-init
+loop-part-init g c =
     let parts = parts_of g.G.Group.codes g.G.Group.dictionary c.args.parts.now in
     record {
-      done = λ d i lt from col. absurd (omega (arith, lt));
-      zeros = λ p past within. c.requires.zeros p within;
-      counts = ap (λ (n : ℕ). record c.args.meter.now { mults = n }) (let none = self_values_none parts in omega
-          (arith, none));
+      products = none_multiplied g.N.Number.BITS (length c.args.column.now) c.args.cols parts c.args.exact.now
+          c.requires.base.whole c.requires.base.products c.requires.zeros;
+      counts = ap (λ (n : ℕ). record c.args.meter.now { mults = n }) (omega arith);
     }
 
-pub times_base-requires-clause-whole : goal.times_base-requires-clause-whole
-times_base-requires-clause-whole g c =
-    let bits = g.N.Number.BITS in
-    let lines = c.args.lines in
-    let parts = parts_of g.G.Group.codes g.G.Group.dictionary c.args.parts.now in
-    let l = c.loop-first.first in
-    let read = line_length l lines.count lines.inner ((l + 1) * lines.inner - l * lines.inner) c.args.columns.now
-    c.loop-first-test.true
-    c.requires.lines.read (line_size l lines.inner) in
-    let written = line_length l lines.count lines.outer ((l + 1) * lines.outer - l * lines.outer) c.loop-first.exact
-    c.loop-first-test.true
-    (c.loop-first.auto.exact ∙ c.requires.lines.written) (line_size l lines.outer) in
-    subst (λ (n : ℕ). IsWhole bits (layout_with (length (take ((l + 1) * lines.inner - l * lines.inner)
-    (drop (l * lines.inner) c.args.columns.now))) n parts))
-    (sym written) (subst (λ (n : ℕ). IsWhole bits (layout_with n lines.outer parts)) (sym read) c.requires.lines.whole)
+pub times_part-requires-clause-base : goal.times_part-requires-clause-base
+times_part-requires-clause-base g c =
+    rw (c.loop-part.auto.column, c.loop-part.auto.codes, c.loop-part.auto.exact) c.requires.base
 
-pub times_base-requires-clause-room : goal.times_base-requires-clause-room
-times_base-requires-clause-room g c =
+pub times_part-requires-clause-one : goal.times_part-requires-clause-one
+times_part-requires-clause-one g c =
+    let items = c.args.parts.now in
+    let q = c.loop-part.part-index in
+    let within : q < length (parts_of g.G.Group.codes g.G.Group.dictionary items) =
+    rw (parts_count g.G.Group.codes g.G.Group.dictionary items) c.loop-part-test.true in (
+      q,
+      within,
+      part_of_item g.G.Group.codes g.G.Group.dictionary items q c.part-item.result c.loop-part-test.true
+          c.part-item.is,
+    )
+
+pub times_part-requires-clause-part : goal.times_part-requires-clause-part
+times_part-requires-clause-part g c =
+    let items = c.args.parts.now in
+    let parts = parts_of g.G.Group.codes g.G.Group.dictionary items in
+    let part = part_of g.G.Group.codes g.G.Group.dictionary c.part-item.result in
+    let q = c.loop-part.part-index in
+    let within : q < length parts = rw (parts_count g.G.Group.codes g.G.Group.dictionary items) c.loop-part-test.true in
+    let is = part_of_item g.G.Group.codes g.G.Group.dictionary items q c.part-item.result c.loop-part-test.true
+    c.part-item.is in
+    let one = one_part g.N.Number.BITS (length c.args.column.now) c.args.cols parts part c.requires.base.whole
+    (q, within, is) in
+    rw c.loop-part.auto.column one.is
+
+pub times_part-requires-clause-within : goal.times_part-requires-clause-within
+times_part-requires-clause-within g c =
+    let items = c.args.parts.now in
+    let parts = parts_of g.G.Group.codes g.G.Group.dictionary items in
+    let part = part_of g.G.Group.codes g.G.Group.dictionary c.part-item.result in
+    let q = c.loop-part.part-index in
+    let within : q < length parts = rw (parts_count g.G.Group.codes g.G.Group.dictionary items) c.loop-part-test.true in
+    let is = part_of_item g.G.Group.codes g.G.Group.dictionary items q c.part-item.result c.loop-part-test.true
+    c.part-item.is in
+    let one = one_part g.N.Number.BITS (length c.args.column.now) c.args.cols parts part c.requires.base.whole
+    (q, within, is) in
+    one.within
+
+pub times_part-requires-clause-zeros : goal.times_part-requires-clause-zeros
+times_part-requires-clause-zeros g c =
+    let items = c.args.parts.now in
+    let parts = parts_of g.G.Group.codes g.G.Group.dictionary items in
+    let q = c.loop-part.part-index in
+    let within : q < length parts = rw (parts_count g.G.Group.codes g.G.Group.dictionary items) c.loop-part-test.true in
+    let is = part_of_item g.G.Group.codes g.G.Group.dictionary items q c.part-item.result c.loop-part-test.true
+    c.part-item.is in
+    rw is at (next_lines g.N.Number.BITS (length c.args.column.now) c.args.cols q parts c.loop-part.exact
+    c.requires.base.whole within c.loop-part.invariant.products)
+
+pub times_part-requires-clause-room : goal.times_part-requires-clause-room
+times_part-requires-clause-room g c =
     let parts = parts_of g.G.Group.codes g.G.Group.dictionary c.args.parts.now in
-    let few = columns_few g.N.Number.BITS parts c.args.lines (length c.args.columns.now)
-    (length c.args.exact.now) c.loop-first.first c.requires.lines
-    (omega (arith, c.loop-first-test.true)) in
-    rw c.loop-first.invariant.counts (record {
+    let few = parts_values_few g.N.Number.BITS (length c.args.column.now) c.args.cols c.loop-part.part-index parts
+    c.requires.base.whole c.requires.base.few in
+    rw c.loop-part.invariant.counts (record {
       mults = omega (arith, c.requires.room.mults, few);
       maps = omega
           (arith, c.requires.room.maps);
     })
 
-pub loop-first-preserved : goal.loop-first-preserved
-loop-first-preserved g c =
-    let lines = c.args.lines in
-    let parts = parts_of g.G.Group.codes g.G.Group.dictionary c.args.parts.now in
-    let value = g.N.Number.value in
-    let items = c.args.columns.now in
-    let l = c.loop-first.first in
-    let n = (l + 1) * lines.outer - l * lines.outer in
-    let m = (l + 1) * lines.inner - l * lines.inner in
-    let old = c.loop-first.exact in
-    let new = c.times_base.new.sums in
-    let there = c.loop-first-test.true in
-    let long : length old ≡ lines.count * lines.outer = c.loop-first.auto.exact ∙ c.requires.lines.written in
-    let read = line_length l lines.count lines.inner m items there c.requires.lines.read (line_size l lines.inner) in
-    let written = line_length l lines.count lines.outer n old there long (line_size l lines.outer) in
-    let size : length new ≡ lines.outer = c.times_base.auto.sums ∙ written in
-    let up_to = mul-le-mul_right {m = l + 1} {n = lines.count} lines.outer (omega (arith, there)) in
-    let more : c.args.meter.now.mults + self_values_to (l + 1) parts ≡ c.args.meter.now.mults +
-    (self_values_to l parts + values_from l parts) =
-    ap (λ (k : ℕ). c.args.meter.now.mults + k) (self_values_more l parts) in
-    let added : c.args.meter.now.mults + self_values_to l parts + values_from l parts
-    ≡ c.args.meter.now.mults + self_values_to (l + 1) parts = omega (arith, more) in
+pub loop-part-preserved : goal.loop-part-preserved
+loop-part-preserved g c =
+    let items = c.args.parts.now in
+    let parts = parts_of g.G.Group.codes g.G.Group.dictionary items in
+    let q = c.loop-part.part-index in
+    let rows = length c.args.column.now in
+    let cols = c.args.cols in
+    let within : q < length parts = rw (parts_count g.G.Group.codes g.G.Group.dictionary items) c.loop-part-test.true in
+    let is = part_of_item g.G.Group.codes g.G.Group.dictionary items q c.part-item.result c.loop-part-test.true
+    c.part-item.is in
+    let old = c.loop-part.exact in
+    let new = c.times_part.new.exact in
+    let products = subst (λ (r : ℕ). AreMultiplied r cols (length c.part-item.result.columns.items) parts
+    c.part-item.result.columns.items old new) c.loop-part.auto.column c.times_part.ensures.products in
+    let more : c.args.meter.now.mults + parts_values parts (take q parts)
+    + listed_values parts c.part-item.result.columns.items
+    ≡ c.args.meter.now.mults + parts_values parts (take (q + 1) parts) =
+    (let next = parts_values_more parts parts q within in
+    let same : listed_values parts (part_at parts q).columns ≡ listed_values parts c.part-item.result.columns.items =
+    ap (λ (p : LayoutPart). listed_values parts p.columns) is in
+    omega (arith, next, same)) in
     record {
-      done = upper_step l lines.count lines.outer n (line_times true parts lines (map value items)) old new there
-          long (line_size l lines.outer) size
-          (λ i from col. c.times_base.ensures.sums i from (omega (arith, col, written))
-          ∙ line_is value true parts lines items l m i (line_size l lines.inner) read)
-          c.loop-first.invariant.done;
-      zeros = λ p past within.
-          behind_line l lines.count lines.outer n p old new there long (line_size l lines.outer) size past
-          ∙ c.loop-first.invariant.zeros p (omega (arith, past))
-          (omega (
-            arith,
-            within,
-            put_length (l * lines.outer) n old new
-                (omega (arith, up_to, long, line_size l lines.outer)) (size ∙ sym (line_size l lines.outer)),
-          ));
-      counts = rw (c.times_base.ensures.counts, c.loop-first.invariant.counts)
-          (ap (λ (k : ℕ). record c.args.meter.now { mults = k }) added);
+      products = parts_multiplied g.N.Number.BITS rows cols q parts old new c.requires.base.whole within
+          (subst (λ (p : LayoutPart). AreMultiplied rows cols (length p.columns) parts p.columns old new) (sym is) products)
+          c.loop-part.invariant.products;
+      counts = rw (c.times_part.ensures.counts, c.loop-part.invariant.counts)
+          (ap (λ (k : ℕ). record c.args.meter.now { mults = k }) more);
     }
+
+pub returns-clause-products : goal.returns-clause-products
+returns-clause-products g c =
+    let items = c.args.parts.now in
+    let parts = parts_of g.G.Group.codes g.G.Group.dictionary items in
+    let q = c.loop-part.part-index in
+    let all : length parts ≤ q = rw (parts_count g.G.Group.codes g.G.Group.dictionary items) c.loop-part-test.false in
+    all_multiplied g.N.Number.BITS (length c.args.column.now) c.args.cols q parts c.loop-part.exact
+    c.requires.base.whole all c.loop-part.invariant.products
+
+pub returns-clause-counts : goal.returns-clause-counts
+returns-clause-counts g c =
+    let items = c.args.parts.now in
+    let parts = parts_of g.G.Group.codes g.G.Group.dictionary items in
+    let q = c.loop-part.part-index in
+    let all : length parts ≤ q = rw (parts_count g.G.Group.codes g.G.Group.dictionary items) c.loop-part-test.false in
+    let done = ap (parts_values parts) (take_all q parts all)
+    ∙ parts_values_all g.N.Number.BITS (length c.args.column.now) c.args.cols parts c.requires.base.whole in
+    rw c.loop-part.invariant.counts (ap (λ (k : ℕ). record c.args.meter.now { mults = c.args.meter.now.mults + k }) done)

@@ -13,7 +13,8 @@ overflow_add-index_mut c =
     let below = c.requires.below i row in
     let are = c.loop-i.invariant.counted in
     let now : c.index_mut.result.now ≡ code_of c.loop-i.counts.items k =
-    get_or_read c.loop-i.counts.items k c.index_mut.result.now (omega (arith, below, are.a_count_each)) c.index_mut.ensures.value 0 in
+    get_or_read c.loop-i.counts.items k c.index_mut.result.now (omega (arith, below, are.a_count_each))
+    c.index_mut.ensures.value 0 in
     omega (arith, now, are.count k below, count_size c.loop-i.i codes k, c.requires.few)
 
 pub loop-i-preserved : goal.loop-i-preserved

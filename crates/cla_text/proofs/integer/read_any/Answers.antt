@@ -13,7 +13,8 @@ pub returns-in-Ok-parse : goal.returns-in-Ok-parse
 returns-in-Ok-parse c =
     let so : is_int_word c.args.word.now ≡ true = sym c.is_int_word.ensures ∙ c.if-not-is_int_word.false in
     let parsed = rw c.in-Ok.ensures.cases.0 at c.in-Ok-parse.ensures.value.0 in
-    rw (to_z-of_z w128 c.in-Ok-parse.v (rw (← parsed.1) at parsed.0.1)) (sym (int_ok c.args.word.now c.in-Ok-parse.v so parsed.0.1 parsed.1))
+    rw (to_z-of_z w128 c.in-Ok-parse.v (rw (← parsed.1) at parsed.0.1))
+    (sym (int_ok c.args.word.now c.in-Ok-parse.v so parsed.0.1 parsed.1))
 
 pub returns-in-Err-parse : goal.returns-in-Err-parse
 returns-in-Err-parse c =

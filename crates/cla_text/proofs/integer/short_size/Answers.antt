@@ -14,5 +14,10 @@ loop-digit-preserved c =
     let next : c.in_ok-size.size ≡ c.loop-digit.size * 10 + (get_or digits i 0 - 48) = search rules in
     record {
       digits = rw (list_all_more is_ascii_digit digits i 0 c.loop-digit-test.true, before.digits, digit) refl;
-      value = rw (digits_value_more 10 digits i c.loop-digit-test.true, next, before.value, digit_is (get_or digits i 0) digit) refl;
+      value = rw (
+        digits_value_more 10 digits i c.loop-digit-test.true,
+        next,
+        before.value,
+        digit_is (get_or digits i 0) digit,
+      ) refl;
     }

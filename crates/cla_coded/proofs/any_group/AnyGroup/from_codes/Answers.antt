@@ -29,8 +29,10 @@ returns-in_ok-rows-in-Plain g c =
       form_is = refl;
       columns_are = c.from_rows.ensures.columns;
       has =
-          plain_from c.args.width (length c.args.values.items / c.args.width) c.args.codes.now (map g.N.Number.value c.args.values.items)
+          plain_from c.args.width (length c.args.values.items / c.args.width) c.args.codes.now
+          (map g.N.Number.value c.args.values.items)
           (map g.N.Number.value c.in_ok-rows-in-Plain.rows.items) _ _
-          c.requires.in_tuples (rw c.deref.ensures.value at c.in_ok-rows-in-Plain.ensures.values) (rw rows at c.from_rows.ensures.codes)
+          c.requires.in_tuples (rw c.deref.ensures.value at c.in_ok-rows-in-Plain.ensures.values)
+          (rw rows at c.from_rows.ensures.codes)
           (rw rows at c.from_rows.ensures.dictionary);
     })

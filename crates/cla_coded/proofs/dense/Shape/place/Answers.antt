@@ -9,4 +9,5 @@ returns-then-self-clause-within c =
     omega (arith, cell_within s.cols s.rows c.args.j c.args.i c.requires.col c.requires.row, mul_comm s.rows s.cols)
 
 pub returns-else-self-clause-within : goal.returns-else-self-clause-within
-returns-else-self-clause-within c = cell_within c.args.self.rows c.args.self.cols c.args.i c.args.j c.requires.row c.requires.col
+returns-else-self-clause-within c = cell_within c.args.self.rows c.args.self.cols c.args.i c.args.j c.requires.row
+    c.requires.col

@@ -10,7 +10,8 @@ new-requires g c =
     let t = c.self.inside in
     dense_shape g.N.Number.BITS (record { rows = t.rows; cols = t.cols; flipped = t.flipped })
     (parts_of g.G.Group.codes g.G.Group.dictionary t.parts.items) c.in_ok-cells.cells.items c.rows.result c.cols.result
-    c.self.invariant c.in_ok-cells.ensures.count (rw (← c.self.view_is) at c.rows.ensures) (rw (← c.self.view_is) at c.cols.ensures)
+    c.self.invariant c.in_ok-cells.ensures.count (rw (← c.self.view_is) at c.rows.ensures)
+    (rw (← c.self.view_is) at c.cols.ensures)
 
 pub returns : goal.returns
 returns g c =
@@ -21,6 +22,7 @@ returns g c =
     c.new.ensures
     ∙ dense_is g.N.Number.BITS (record { rows = t.rows; cols = t.cols; flipped = t.flipped })
     (parts_of g.G.Group.codes g.G.Group.dictionary t.parts.items) (map value cells) c.rows.result c.cols.result
-    c.self.invariant (length-map cells value ∙ c.in_ok-cells.ensures.count) entries (rw (← c.self.view_is) at c.rows.ensures)
+    c.self.invariant (length-map cells value ∙ c.in_ok-cells.ensures.count) entries
+    (rw (← c.self.view_is) at c.rows.ensures)
     (rw (← c.self.view_is) at c.cols.ensures)
     ∙ ap (matrix_of g.G.Group.codes g.G.Group.dictionary) c.self.view_is

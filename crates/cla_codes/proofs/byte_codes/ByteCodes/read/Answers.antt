@@ -45,7 +45,8 @@ returns g c =
     let n = length c.args.into.now in
     let codes = c.args.self.now in
     let enough : n ≤ length (drop first codes) = omega (arith, length-drop first codes, c.requires.within) in
-    ext_get_or 0 c.loop-i.into (take n (drop first codes)) (c.loop-i.auto.into ∙ sym (length-take-le n (drop first codes) enough))
+    ext_get_or 0 c.loop-i.into (take n (drop first codes)) (c.loop-i.auto.into
+    ∙ sym (length-take-le n (drop first codes) enough))
     (λ j there. (let within : j < n = omega (arith, there, c.loop-i.auto.into) in
     c.loop-i.invariant j (omega (arith, within, c.loop-i-test.false))
     ∙ sym (get_or-take n (drop first codes) j 0 within ∙ get_or-drop first codes j 0)))

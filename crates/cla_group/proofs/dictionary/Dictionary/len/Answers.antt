@@ -6,4 +6,5 @@ pub returns-clause-are : goal.returns-clause-are
 returns-clause-are g c =
     let d = c.self.inside in
     rw (sym c.self.view_is)
-    (tuples_are g.N.Number.BITS g.N.Number.value g.met.N.Number.in_range d.width d.tuples d.values.items c.self.invariant)
+    (tuples_are g.N.Number.BITS g.N.Number.value g.met.N.Number.in_range d.width d.tuples d.values.items
+    c.self.invariant)

@@ -19,4 +19,5 @@ pub returns-clause-group : goal.returns-clause-group
 returns-clause-group g c = λ codes are.
     (let whole : vec_len c.args.values ≡ length c.args.values.items = search rules in
     rw (c.new.ensures, c.len.ensures, whole)
-    (group_with_values g.N.Number.BITS g.N.Number.value g.met.N.Number.in_range c.args.width _ codes c.args.values.items are))
+    (group_with_values g.N.Number.BITS g.N.Number.value g.met.N.Number.in_range c.args.width _ codes c.args.values.items
+    are))

@@ -41,7 +41,13 @@ all g c =
     let d = c.self.inside in
     let count : length c.args.self.now.tuples ≡ d.tuples =
     rw (← c.self.view_is) (tuples_count d.width d.tuples (map g.N.Number.value d.values.items)) in
-    let end : c.loop-k.k ≡ d.tuples = omega (arith, c.loop-k-test.false, c.loop-k.auto.k-end, c.len-k-end.ensures.count, count) in
+    let end : c.loop-k.k ≡ d.tuples = omega (
+      arith,
+      c.loop-k-test.false,
+      c.loop-k.auto.k-end,
+      c.len-k-end.ensures.count,
+      count,
+    ) in
     let wanted = map (projected c.args.places.now) c.args.self.now.tuples in (
       count,
       subst (λ (k : ℕ). AreFirst (length c.args.places.now) k wanted (map g.N.Number.value c.loop-k.values.items)) end

@@ -14,7 +14,8 @@ returns g c =
     let order = c.args.order.now in
     let kept = c.in_ok-values.values.items in
     let old = tuples_of d.width d.tuples (map value d.values.items) in
-    let below : (k : ℕ) → k < length order → code_of order k < length old = rw (← c.self.view_is) at c.requires.within in
+    let below : (k : ℕ) → k < length order → code_of order k < length old =
+    rw (← c.self.view_is) at c.requires.within in
     let same : AreInOrder d.width order (map value d.values.items) (map value kept) =
     rw c.deref.ensures.value at c.in_ok-values.ensures.values in
     let tuples : tuples_of d.width (length order) (map value kept) ≡ in_order order old =

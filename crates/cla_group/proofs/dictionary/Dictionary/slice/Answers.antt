@@ -28,7 +28,8 @@ values_are g c =
     let fits : to ≤ d.tuples * d.width = mul-le-mul_right {m = c.args.b} {n = d.tuples} d.width (within g c) in
     let rest : to - from ≤ length (drop from values) = rw (length-drop from values) (omega (arith, old, fits)) in
     let kept = c.in_ok-from_slice.field-0.items in
-    let count : length kept ≡ to - from = ap length c.in_ok-from_slice.ensures.items ∙ length-take-le (to - from) (drop from values) rest in
+    let count : length kept ≡ to - from = ap length c.in_ok-from_slice.ensures.items
+    ∙ length-take-le (to - from) (drop from values) rest in
     record {
       a_column = c.self.invariant.a_column;
       a_tuple = omega (arith, c.requires.some);
@@ -44,7 +45,8 @@ returns-clause-value g c =
     let d = c.self.inside in
     let value = g.N.Number.value in
     let cut = slice_tuples value d.width d.tuples c.args.a c.args.b d.values.items c.requires.some (within g c) in
-    rw (← c.self.view_is) (rw (c.in_ok-from_slice.ensures.items, c.deref.ensures.value) (ap (the_dictionary d.width) cut))
+    rw (← c.self.view_is) (rw (c.in_ok-from_slice.ensures.items, c.deref.ensures.value)
+    (ap (the_dictionary d.width) cut))
 
 pub returns-clause-are : goal.returns-clause-are
 returns-clause-are g c = tuples_are g.N.Number.BITS g.N.Number.value g.met.N.Number.in_range _ _ _ (values_are g c)

@@ -10,7 +10,8 @@ returns-clause-are g c =
     let value = g.N.Number.value in
     let size : length c.args.values.items ≡ length (tuples_of d.width d.tuples (map value d.values.items)) * d.width =
     rw (← c.self.view_is) at c.requires in
-    let same : length c.args.values.items ≡ d.tuples * d.width = rw (tuples_count d.width d.tuples (map value d.values.items)) at size in
+    let same : length c.args.values.items ≡ d.tuples * d.width =
+    rw (tuples_count d.width d.tuples (map value d.values.items)) at size in
     tuples_are g.N.Number.BITS value g.met.N.Number.in_range d.width d.tuples c.args.values.items
     (record {
       a_column = c.self.invariant.a_column;

@@ -18,5 +18,6 @@ gather_row-requires g c =
 
 pub loop-i-preserved : goal.loop-i-preserved
 loop-i-preserved g c = record {
-  so_far = c.gather_row.ensures (g.Self.Group.codes c.args.self.now) (sym c.code_at-k.ensures) c.loop-i.invariant.so_far;
+  so_far = c.gather_row.ensures (g.Self.Group.codes c.args.self.now) (sym c.code_at-k.ensures)
+      c.loop-i.invariant.so_far;
 }

@@ -6,6 +6,7 @@ use Rattle.cla_group.proofs.group.Group.scatter_least.Given as goal
 -- the rows before i are done, and the others are as they were
 abbrev pub invariant-loop-i : goal.invariant-loop-i
 invariant-loop-i g l = record {
-  done : (j : ℕ) → j < l.i → at l.into j ≡ int_min (at l.fn.into j) (at l.parts (code_of (g.Self.Group.codes l.self) j));
+  done : (j : ℕ) → j < l.i →
+      at l.into j ≡ int_min (at l.fn.into j) (at l.parts (code_of (g.Self.Group.codes l.self) j));
   left : (j : ℕ) → l.i ≤ j → at l.into j ≡ at l.fn.into j;
 }

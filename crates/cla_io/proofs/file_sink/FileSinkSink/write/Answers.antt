@@ -6,7 +6,8 @@ pub returns-clause-writes : goal.returns-clause-writes
 returns-clause-writes g c =
     let old = g.F.Files.state c.args.self.now.files.now in
     let new = g.F.Files.state c.write.new.self in
-    sink_writes c.args.piece.now old new c.write.result c.write.ensures.writing c.args.self.now.open c.write.ensures.writes
+    sink_writes c.args.piece.now old new c.write.result c.write.ensures.writing c.args.self.now.open
+    c.write.ensures.writes
 
 pub returns-clause-kept : goal.returns-clause-kept
 returns-clause-kept g c =

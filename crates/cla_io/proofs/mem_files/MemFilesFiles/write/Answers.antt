@@ -9,4 +9,5 @@ invariant_of-self-2-clause-written c = λ x is.
     let old = told_of c.args.self.now.files.entries in
     let name = c.in-Some.name in
     let key : x ≡ name = cc in
-    rw key (there_still old (told_of c.append.new.files.entries) name (bytes_at old name ++ c.args.piece.now) c.append.result c.append.ensures.told c.append.ensures.same (c.args.self.now.written name c.in-Some.is))
+    rw key (there_still old (told_of c.append.new.files.entries) name (bytes_at old name ++ c.args.piece.now)
+    c.append.result c.append.ensures.told c.append.ensures.same (c.args.self.now.written name c.in-Some.is))

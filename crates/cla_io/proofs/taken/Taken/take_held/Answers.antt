@@ -19,7 +19,9 @@ returns-clause-line c =
     let within = rw c.as_slice.ensures at c.len_without_cr.ensures.within in
     rw (← c.self.view_is) (
       omega (arith, lf.0),
-      ap (λ (b : Vec ℕ Global). take (w.start + c.len_without_cr.result - w.start) (drop w.start b.items)) c.consume.ensures.same ∙ line_held w.bytes.items w.start w.end c.args.place c.len_without_cr.result lf.0 lf.1 line within,
+      ap (λ (b : Vec ℕ Global). take (w.start + c.len_without_cr.result - w.start) (drop w.start b.items))
+          c.consume.ensures.same ∙ line_held w.bytes.items w.start w.end c.args.place c.len_without_cr.result lf.0 lf.1
+          line within,
       c.consume.ensures.items ∙ sym e.rest,
       omega (arith, e.is_width),
       c.if-self-next.false,

@@ -20,10 +20,17 @@ loop-k-init c =
 pub next_start-start-requires : goal.next_start-start-requires
 next_start-start-requires c =
     let list = listed c.args.codes.now c.args.rest in
-    let size = ap length c.loop-k.invariant.offsets ∙ length-append c.args.self.now.offsets.items (lists_to list c.loop-k.k) in
+    let size = ap length c.loop-k.invariant.offsets
+    ∙ length-append c.args.self.now.offsets.items (lists_to list c.loop-k.k) in
     record {
       past = omega (arith, c.len-base.ensures, size);
-      few = omega (arith, c.len-base.ensures, size, listed_few c.args.codes.now c.args.rest c.loop-k.k, c.requires.rows);
+      few = omega (
+        arith,
+        c.len-base.ensures,
+        size,
+        listed_few c.args.codes.now c.args.rest c.loop-k.k,
+        c.requires.rows,
+      );
     }
 
 pub push_offsets-requires : goal.push_offsets-requires
@@ -46,7 +53,8 @@ loop-k-preserved c =
     record {
       bases = c.loop-k.invariant.bases;
       starts =
-          c.in_ok-push-2.ensures.items ∙ ap (λ (xs : List ℕ). xs ++ c.next_start-start.result ∷ []) c.loop-k.invariant.starts
+          c.in_ok-push-2.ensures.items ∙ ap (λ (xs : List ℕ). xs ++ c.next_start-start.result ∷ [])
+          c.loop-k.invariant.starts
           ∙ append_assoc old.starts.items (begins_to list k) (c.next_start-start.result ∷ [])
           ∙ ap (λ (n : ℕ). old.starts.items ++ (begins_to list k ++ n ∷ [])) start
           ∙ ap (λ (xs : List ℕ). old.starts.items ++ xs) (sym (begins_more list k));
@@ -60,10 +68,17 @@ loop-k-preserved c =
 pub next_start-end-requires : goal.next_start-end-requires
 next_start-end-requires c =
     let list = listed c.args.codes.now c.args.rest in
-    let size = ap length c.loop-k.invariant.offsets ∙ length-append c.args.self.now.offsets.items (lists_to list c.loop-k.k) in
+    let size = ap length c.loop-k.invariant.offsets
+    ∙ length-append c.args.self.now.offsets.items (lists_to list c.loop-k.k) in
     record {
       past = omega (arith, c.len-base.ensures, size);
-      few = omega (arith, c.len-base.ensures, size, listed_few c.args.codes.now c.args.rest c.loop-k.k, c.requires.rows);
+      few = omega (
+        arith,
+        c.len-base.ensures,
+        size,
+        listed_few c.args.codes.now c.args.rest c.loop-k.k,
+        c.requires.rows,
+      );
     }
 
 pub returns : goal.returns
@@ -73,11 +88,13 @@ returns c =
     let list = listed c.args.codes.now c.args.rest in
     let last : k ≡ c.args.tuples = omega (arith, c.loop-k-test.false, c.loop-k.auto.k-end) in
     let size = ap length c.loop-k.invariant.offsets ∙ length-append old.offsets.items (lists_to list k) in
-    let end : c.next_start-end.result ≡ length (lists_to list k) = omega (arith, c.next_start-end.ensures, c.len-base.ensures, size) in
+    let end : c.next_start-end.result ≡ length (lists_to list k) =
+    omega (arith, c.next_start-end.ensures, c.len-base.ensures, size) in
     record {
       bases = c.loop-k.invariant.bases;
       starts =
-          c.in_ok-push-3.ensures.items ∙ ap (λ (xs : List ℕ). xs ++ c.next_start-end.result ∷ []) c.loop-k.invariant.starts
+          c.in_ok-push-3.ensures.items
+          ∙ ap (λ (xs : List ℕ). xs ++ c.next_start-end.result ∷ []) c.loop-k.invariant.starts
           ∙ append_assoc old.starts.items (begins_to list k) (c.next_start-end.result ∷ [])
           ∙ ap (λ (n : ℕ). old.starts.items ++ (begins_to list k ++ n ∷ [])) end
           ∙ ap (λ (xs : List ℕ). old.starts.items ++ xs) (sym (begins_more list k))

@@ -6,6 +6,7 @@ use Rattle.cla_offsets.proofs.owned.OffsetsOwned.with_values.Goals as goal
 pub invariant_of-result-clause-is : goal.invariant_of-result-clause-is
 invariant_of-result-clause-is g c =
     let p = c.args.self.now in
-    let count = tuples_count p.dictionary.width (length p.dictionary.tuples) (map g.N.Number.value c.args.values.items) in
+    let count = tuples_count p.dictionary.width (length p.dictionary.tuples) (map g.N.Number.value c.args.values.items)
+    in
     let are = rw c.with_values-dictionary.ensures.value at c.with_values-dictionary.ensures.are in
     rw (c.in_ok-rows.ensures.cases, c.with_values-dictionary.ensures.value) (group_valued _ _ _ _ _ p.is are count)

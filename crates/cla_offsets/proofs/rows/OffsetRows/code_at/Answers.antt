@@ -10,7 +10,10 @@ loop-k-init c =
     let v = c.args.self.now in
     let are = rw c.self.view_is at c.self.invariant in
     let lists = list_of v (c.args.i / segment_rows) in
-    record { told = rw are.tuples_are (row_told v lists c.args.i c.requires (are.in_tuples c.args.i c.requires) (λ k _. refl)) }
+    record {
+      told =
+          rw are.tuples_are (row_told v lists c.args.i c.requires (are.in_tuples c.args.i c.requires) (λ k _. refl));
+    }
 
 pub has_offset-requires : goal.has_offset-requires
 has_offset-requires c =
@@ -20,13 +23,15 @@ has_offset-requires c =
 
 pub loop-k-preserved : goal.loop-k-preserved
 loop-k-preserved c = record {
-  told = told_step c.args.self.now.rest (list_of c.args.self.now (c.args.i / segment_rows)) (c.loop-k.k - 1) _ _ _ false (omega arith)
+  told = told_step c.args.self.now.rest (list_of c.args.self.now (c.args.i / segment_rows)) (c.loop-k.k - 1) _ _ _ false
+      (omega arith)
       c.list.ensures (sym c.has_offset.ensures ∙ c.if-has_offset.false) ∙ c.loop-k.invariant.told;
 }
 
 pub returns-then-has_offset : goal.returns-then-has_offset
 returns-then-has_offset c =
-    told_step c.args.self.now.rest (list_of c.args.self.now (c.args.i / segment_rows)) (c.loop-k.k - 1) _ _ _ true (omega arith)
+    told_step c.args.self.now.rest (list_of c.args.self.now (c.args.i / segment_rows)) (c.loop-k.k - 1) _ _ _ true
+    (omega arith)
     c.list.ensures (sym c.has_offset.ensures ∙ c.if-has_offset.true) ∙ c.loop-k.invariant.told
 
 pub returns : goal.returns
@@ -36,4 +41,5 @@ returns c =
     let lists = list_of v (c.args.i / segment_rows) in
     let are = rw c.self.view_is at c.self.invariant in
     let last : c.loop-k.k ≡ 0 = omega arith in
-    are.rest_is ∙ sym (code_by_none v.rest lists j) ∙ ap (λ (n : ℕ). code_by v.rest lists n j) (sym last) ∙ c.loop-k.invariant.told
+    are.rest_is ∙ sym (code_by_none v.rest lists j) ∙ ap (λ (n : ℕ). code_by v.rest lists n j) (sym last)
+    ∙ c.loop-k.invariant.told

@@ -26,5 +26,6 @@ loop-s-preserved c =
           ∙ ap (λ (xs : List ℕ). codes_to codes c.args.a c.args.b s ++ part xs) c.decode.ensures
           ∙ codes_more codes c.args.a c.args.b s begin end c.requires.some
           (omega (arith, c.loop-s-test.true, c.segment_count-s-end.ensures))
-          (omega (arith, c.loop-s.auto.s)) (ap (λ (x : ℕ). x - first) c.max.ensures) (ap (λ (x : ℕ). x - first) c.min-in-loop-s.ensures);
+          (omega (arith, c.loop-s.auto.s)) (ap (λ (x : ℕ). x - first) c.max.ensures)
+          (ap (λ (x : ℕ). x - first) c.min-in-loop-s.ensures);
     }

@@ -33,17 +33,20 @@ loop-s-preserved c =
     record { lists = more_lists c.loop-s.s _ _ _ c.loop-s.invariant.lists more }
 
 -- all lists
-lists : (c : After-loop-s) → AreLists (segments_of (length c.args.codes.now)) (rows_of_codes c.args.tuples c.args.rest c.args.codes.now)
+lists : (c : After-loop-s) →
+    AreLists (segments_of (length c.args.codes.now)) (rows_of_codes c.args.tuples c.args.rest c.args.codes.now)
     c.loop-s.lists
 lists c =
     let all : c.loop-s.s ≡ segments_of (length c.args.codes.now) =
     omega (arith, c.loop-s-test.false, c.loop-s.auto.s-end, c.segment_count-segments.ensures) in
-    subst (λ (n : ℕ). AreLists n (rows_of_codes c.args.tuples c.args.rest c.args.codes.now) c.loop-s.lists) all c.loop-s.invariant.lists
+    subst (λ (n : ℕ). AreLists n (rows_of_codes c.args.tuples c.args.rest c.args.codes.now) c.loop-s.lists) all
+    c.loop-s.invariant.lists
 
 pub invariant_of-result : goal.invariant_of-result
 invariant_of-result c =
     let are = lists (goal.at.invariant_of-result c).After-loop-s in
-    rw (lists_tell (rows_of_codes c.args.tuples c.args.rest c.args.codes.now) c.loop-s.lists c.requires.below are) (record {
+    rw (lists_tell (rows_of_codes c.args.tuples c.args.rest c.args.codes.now) c.loop-s.lists c.requires.below are)
+    (record {
       count = refl;
       tuples_are = refl;
       rest_is = refl;

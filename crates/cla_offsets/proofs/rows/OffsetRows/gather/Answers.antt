@@ -26,7 +26,11 @@ gather_codes-requires-clause-so_far g c =
     let are = rw c.self.view_is at c.self.invariant in
     let here : min (s * segment_rows) (length codes) ≡ s * segment_rows =
     omega (arith, c.loop-s-test.true, c.segment_count-s-end.ensures, are.count) in
-    rw c.decode.ensures (codes, (λ j there. sym (segment_row codes s j there).2), (rw here at c.loop-s.invariant.so_far))
+    rw c.decode.ensures (
+      codes,
+      (λ j there. sym (segment_row codes s j there).2),
+      (rw here at c.loop-s.invariant.so_far),
+    )
 
 pub loop-s-preserved : goal.loop-s-preserved
 loop-s-preserved g c =
@@ -39,7 +43,8 @@ loop-s-preserved g c =
     let size = ap length c.decode.ensures ∙ segment_size codes s in
     let next : s * segment_rows + length c.decode.new.into ≡ min ((s + 1) * segment_rows) (length codes) =
     omega (arith, size, here) in
-    let from : AreCodesFrom (s * segment_rows) c.decode.new.into codes = rw c.decode.ensures (λ j row. sym (segment_row codes s j row).2) in
+    let from : AreCodesFrom (s * segment_rows) c.decode.new.into codes =
+    rw c.decode.ensures (λ j row. sym (segment_row codes s j row).2) in
     let sums = c.gather_codes.ensures codes from (rw here at c.loop-s.invariant.so_far) in
     record {
       room = buffer_kept codes s c.loop-s.codes c.decode.new.into c.min.result

@@ -8,5 +8,6 @@ use Rattle.cla_offsets.proofs.rows.OffsetRows.gather.Given as goal
 abbrev pub invariant-loop-s : goal.invariant-loop-s
 invariant-loop-s g l = record {
   room : length l.codes ≡ segment_rows;
-  so_far : AreGathered l.self.codes (map g.N.Number.value l.rows) (min (l.s * segment_rows) (length l.self.codes)) l.into;
+  so_far : AreGathered l.self.codes (map g.N.Number.value l.rows) (min (l.s * segment_rows) (length l.self.codes))
+      l.into;
 }

@@ -12,4 +12,7 @@ join_lists-requires-clause-fits g c = λ j there.
 
 pub loop-s-preserved : goal.loop-s-preserved
 loop-s-preserved g c =
-    record { joined = segment_joined g.J.Join.join c.loop-s.s c.args.self.now.codes _ _ _ _ c.loop-s.invariant.joined c.join_lists.ensures }
+    record {
+      joined = segment_joined g.J.Join.join c.loop-s.s c.args.self.now.codes _ _ _ _ c.loop-s.invariant.joined
+          c.join_lists.ensures;
+    }

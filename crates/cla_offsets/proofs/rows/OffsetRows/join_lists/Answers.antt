@@ -17,10 +17,16 @@ join_list-requires g c =
     let are = rw c.self.view_is at c.self.invariant in
     let lists = are_listed (segment_of v.codes s) v.rest k c.list.result.now c.list.ensures in
     let there : k < length parts = omega (arith, c.loop-k-test.true, are.tuples_are, c.requires.tuples) in
-    let part : c.index-parts-k.result ≡ at parts k = c.index-parts-k.is ∙ get_or_default parts k c.index-parts-k.result (pos 0) there in
+    let part : c.index-parts-k.result ≡ at parts k = c.index-parts-k.is
+    ∙ get_or_default parts k c.index-parts-k.result (pos 0) there in
     let may = λ (j m : ℕ). g.J.Join.can_join (at c.args.into.now (s * segment_rows + j)) (at parts m) in
     record {
-      within = λ n there. omega (arith, (segment_row v.codes s _ (lists.within n there)).1, c.requires.rows, c.loop-k.auto.into);
+      within = λ n there. omega (
+        arith,
+        (segment_row v.codes s _ (lists.within n there)).1,
+        c.requires.rows,
+        c.loop-k.auto.into,
+      );
       rising = lists.rising;
       fits = λ n there.
           (let row = lists.within n there in
@@ -37,11 +43,16 @@ loop-k-preserved g c =
     let first = c.args.s * segment_rows in
     let are = rw c.self.view_is at c.self.invariant in
     let there : k < length parts = omega (arith, c.loop-k-test.true, are.tuples_are, c.requires.tuples) in
-    let part : c.index-parts-k.result ≡ at parts k = c.index-parts-k.is ∙ get_or_default parts k c.index-parts-k.result (pos 0) there in
-    let walk = subst (λ (z : ℤ). IsListJoined g.J.Join.join first list z c.loop-k.into c.join_list.new.into) part c.join_list.ensures in
+    let part : c.index-parts-k.result ≡ at parts k = c.index-parts-k.is
+    ∙ get_or_default parts k c.index-parts-k.result (pos 0) there in
+    let walk = subst (λ (z : ℤ). IsListJoined g.J.Join.join first list z c.loop-k.into c.join_list.new.into) part
+    c.join_list.ensures in
     let so_far = c.loop-k.invariant.joined in
     let segment = segment_of v.codes c.args.s in
-    record { joined = list_joined g.J.Join.join first segment v.rest k list parts _ _ _ c.list.ensures c.requires.rest so_far walk }
+    record {
+      joined = list_joined g.J.Join.join first segment v.rest k list parts _ _ _ c.list.ensures c.requires.rest
+          so_far walk;
+    }
 
 pub returns : goal.returns
 returns g c =
@@ -51,6 +62,7 @@ returns g c =
       before = c.loop-k.invariant.joined.before;
       joined = λ j there.
           (let row = segment_row v.codes c.args.s j there in
-          c.loop-k.invariant.joined.done j there (omega (arith, row.2, are.in_tuples _ row.1, are.tuples_are, c.loop-k-test.false)));
+          c.loop-k.invariant.joined.done j there
+          (omega (arith, row.2, are.in_tuples _ row.1, are.tuples_are, c.loop-k-test.false)));
       past = c.loop-k.invariant.joined.past;
     }

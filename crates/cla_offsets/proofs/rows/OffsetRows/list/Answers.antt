@@ -14,10 +14,12 @@ offset_bounds-deref-begin c =
     omega (arith, c.begin.ensures, within, lists_few v (segments_of r.rows), are.few)
 
 pub slice_bounds-result-count : goal.slice_bounds-result-count
-slice_bounds-result-count c = omega (arith, c.begin.ensures, c.begin-2.ensures, list_end c.args.self.now c.args.s c.args.k)
+slice_bounds-result-count c =
+    omega (arith, c.begin.ensures, c.begin-2.ensures, list_end c.args.self.now c.args.s c.args.k)
 
 pub slice_bounds-result-start : goal.slice_bounds-result-start
-slice_bounds-result-start c = omega (arith, c.begin.ensures, c.begin-2.ensures, list_end c.args.self.now c.args.s c.args.k)
+slice_bounds-result-start c =
+    omega (arith, c.begin.ensures, c.begin-2.ensures, list_end c.args.self.now c.args.s c.args.k)
 
 pub slice_bounds-result-end : goal.slice_bounds-result-end
 slice_bounds-result-end c =

@@ -26,7 +26,8 @@ loop-s-preserved c =
     let are = rw c.self.view_is at c.self.invariant in
     codes_written c.args.self.now.codes c.loop-s.s c.min-end.result c.loop-s.into c.decode.new.into
     (omega (arith, c.loop-s-test.true, c.segment_count-s-end.ensures, are.count))
-    (omega (arith, c.loop-s.auto.into, c.requires)) (omega (arith, c.min-end.ensures, are.count)) c.decode.ensures c.loop-s.invariant
+    (omega (arith, c.loop-s.auto.into, c.requires)) (omega (arith, c.min-end.ensures, are.count)) c.decode.ensures
+    c.loop-s.invariant
 
 pub returns : goal.returns
 returns c =

@@ -9,8 +9,10 @@ invariant_of-result g c = record { is = plain_group _ _ _ c.in_ok-slice.ensures.
 pub returns-clause-rows : goal.returns-clause-rows
 returns-clause-rows g c =
     let p = c.args.self.now in
-    let within : c.args.b ≤ length p.dictionary.tuples = rw (rows_count (length p.dictionary.tuples)) at c.requires.within in
-    rw c.in_ok-slice.ensures.value (rows_cut p.dictionary.width c.args.a c.args.b p.dictionary.tuples c.requires.some within)
+    let within : c.args.b ≤ length p.dictionary.tuples =
+    rw (rows_count (length p.dictionary.tuples)) at c.requires.within in
+    rw c.in_ok-slice.ensures.value (rows_cut p.dictionary.width c.args.a c.args.b p.dictionary.tuples c.requires.some
+    within)
 
 pub returns-clause-numbered : goal.returns-clause-numbered
 returns-clause-numbered g c = rows_numbered (length c.in_ok-slice.field-0.tuples)

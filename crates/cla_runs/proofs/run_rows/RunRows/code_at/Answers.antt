@@ -4,7 +4,8 @@ use Rattle.cla_runs.proofs.run_rows.RunRows.code_at.Goals.{After-ended_by-n}
 use Rattle.cla_runs.proofs.run_rows.RunRows.code_at.Goals as goal
 
 -- the run at which row i stands
-found : (c : After-ended_by-n) → IsAtRun c.self.inside.runs.ends.items (length c.self.inside.runs.keys.items) c.args.i c.ended_by-n.result
+found : (c : After-ended_by-n) → IsAtRun c.self.inside.runs.ends.items (length c.self.inside.runs.keys.items) c.args.i
+    c.ended_by-n.result
 found c = rw c.ended_by-n.ensures (at_run c.self.invariant.runs c.args.i)
 
 pub ended_by-n-requires : goal.ended_by-n-requires
@@ -17,7 +18,8 @@ pub key-requires : goal.key-requires
 key-requires c =
     let kept = rw c.self.view_is at c.self.invariant in
     let is = found (goal.at.key-requires c).After-ended_by-n in
-    (code_in_run kept.runs c.args.i c.ended_by-n.result c.requires is (omega (arith, c.if-begin-i.true, c.begin.ensures))).0
+    (code_in_run kept.runs c.args.i c.ended_by-n.result c.requires is
+    (omega (arith, c.if-begin-i.true, c.begin.ensures))).0
 
 pub returns-then-begin-i : goal.returns-then-begin-i
 returns-then-begin-i c =
@@ -30,4 +32,6 @@ pub returns-else-begin-i : goal.returns-else-begin-i
 returns-else-begin-i c =
     let kept = rw c.self.view_is at c.self.invariant in
     let is = found (goal.at.returns-else-begin-i c).After-ended_by-n in
-    c.rest.ensures ∙ sym (code_in_gap kept.runs c.args.i c.ended_by-n.result is (omega (arith, c.if-begin-i.false, c.begin.ensures)))
+    c.rest.ensures
+    ∙ sym
+    (code_in_gap kept.runs c.args.i c.ended_by-n.result is (omega (arith, c.if-begin-i.false, c.begin.ensures)))

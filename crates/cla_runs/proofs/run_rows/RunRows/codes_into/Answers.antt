@@ -26,7 +26,8 @@ loop-self-init c =
     }
 
 -- stretch s begins before the last of these rows, so it is there
-there : (c : After-edge) → c.edge.result < c.args.a + length c.args.into.now → c.loop-self.s < 2 * length c.self.inside.runs.keys.items + 1
+there : (c : After-edge) → c.edge.result < c.args.a + length c.args.into.now →
+    c.loop-self.s < 2 * length c.self.inside.runs.keys.items + 1
 there c before =
     let kept = rw c.self.view_is at c.self.invariant in
     stretch_there kept.runs c.loop-self.s (c.args.a + length c.args.into.now) c.loop-self.invariant.there

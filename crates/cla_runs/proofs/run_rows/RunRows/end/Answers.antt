@@ -10,7 +10,8 @@ end_before-requires c = let kept = rw c.self.view_is at c.self.invariant in
 pub returns : goal.returns
 returns c =
     let kept = rw c.self.view_is at c.self.invariant in
-    let there : c.args.number < length c.self.inside.runs.keys.items = omega (arith, c.requires, listed_count kept.runs) in
+    let there : c.args.number < length c.self.inside.runs.keys.items =
+    omega (arith, c.requires, listed_count kept.runs) in
     rw (listed_begin kept.runs c.args.number there, key_is kept.runs c.args.number there, c.end_before.ensures)
     (maximal kept.runs (code_of c.self.inside.runs.keys.items c.args.number)
     (kept.runs.listed c.args.number there) c.args.number there refl)

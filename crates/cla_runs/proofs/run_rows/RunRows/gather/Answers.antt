@@ -8,11 +8,14 @@ use Rattle.cla_runs.proofs.run_rows.RunRows.gather.Goals.{After-edge-in-loop-s}
 use Rattle.cla_runs.proofs.run_rows.RunRows.gather.Goals as goal
 
 -- the rows of stretch s, where those before them are gathered
-stretch : (g : Over) (c : After-edge-in-loop-s g) → IsStretch c.args.self.now.codes c.code-k.result c.edge.result c.edge-in-loop-s.result
+stretch : (g : Over) (c : After-edge-in-loop-s g) →
+    IsStretch c.args.self.now.codes c.code-k.result c.edge.result c.edge-in-loop-s.result
 stretch g c =
     let kept = rw c.self.view_is at c.self.invariant in
-    let s : c.loop-s.s < 2 * length c.self.inside.runs.keys.items + 1 = omega (arith, c.loop-s-test.true, c.len.ensures) in
-    rw (c.code-k.ensures, c.rest.ensures, c.edge.ensures, c.edge-in-loop-s.ensures) (stretch_is kept.runs (omega arith) c.loop-s.s s)
+    let s : c.loop-s.s < 2 * length c.self.inside.runs.keys.items + 1 =
+    omega (arith, c.loop-s-test.true, c.len.ensures) in
+    rw (c.code-k.ensures, c.rest.ensures, c.edge.ensures, c.edge-in-loop-s.ensures)
+    (stretch_is kept.runs (omega arith) c.loop-s.s s)
 
 so_far : (g : Over) (c : After-edge-in-loop-s g) → AreGatheredTo c.edge.result c.args.self.now.codes
     (map g.N.Number.value c.args.rows.now) c.loop-s.into

@@ -5,5 +5,6 @@ use Rattle.cla_runs.proofs.run_rows.RunRows.gather.Given as goal
 
 -- the rows before stretch s are gathered
 abbrev pub invariant-loop-s : goal.invariant-loop-s
-invariant-loop-s g l = AreGatheredTo (edge l.self-inside.runs.begins.items l.self-inside.runs.ends.items l.s) l.self.codes
+invariant-loop-s g l = AreGatheredTo (edge l.self-inside.runs.begins.items l.self-inside.runs.ends.items l.s)
+    l.self.codes
     (map g.N.Number.value l.rows) l.into

@@ -7,7 +7,8 @@ pub invariant_of-result : goal.invariant_of-result
 invariant_of-result g c =
     let p = c.args.self.now in
     let are = rw c.with_values-dictionary.ensures.value at c.with_values-dictionary.ensures.are in
-    let count = tuples_count p.dictionary.width (length p.dictionary.tuples) (map g.N.Number.value c.args.values.items) in
+    let count = tuples_count p.dictionary.width (length p.dictionary.tuples) (map g.N.Number.value c.args.values.items)
+    in
     rw (c.in_ok-rows.ensures.cases, c.with_values-dictionary.ensures.value) (record {
       is = group_valued _ _ _ _ _ p.is are count;
       all = p.all ∙ sym count;

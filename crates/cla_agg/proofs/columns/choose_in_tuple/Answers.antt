@@ -1,0 +1,83 @@
+use Rattle.std.proofs.Common.{◌≡◌, ◌<◌, ◌+◌, ℕ, ℤ, pos, length, ap, subst, sym, ◌∙◌, refl, arith, rules}
+use Rattle.std.proofs.lemmas.List.{get_or_default}
+use Rattle.std.specs.Vec.{vec_len}
+use Rattle.cla_layout.specs.Groups.{at, value_of}
+use Rattle.cla_layout.specs.GroupLaws.{IsExtreme}
+use Rattle.cla_layout.specs.Layouts.{column_at}
+use Rattle.cla_layout.proofs.Columns.{column_read}
+use Rattle.cla_layout.proofs.Wholes.{same_width}
+use Rattle.cla_coded.specs.Parts.{part_of}
+use Rattle.cla_agg.specs.Lines.{IsChosen}
+use Rattle.cla_agg.proofs.Extremes.{extreme_more}
+use Rattle.cla_agg.proofs.Placed.{IsPlaceOf, made_here}
+use Rattle.cla_agg.proofs.columns.choose_in_tuple.Goals as goal
+
+pub loop-c-init : goal.loop-c-init
+loop-c-init g c = record {
+  done = λ d lt. absurd (omega (arith, lt));
+  left = λ d le there. c.requires.so_far d there;
+  kept = λ j none. refl;
+}
+
+pub index-requires : goal.index-requires
+index-requires g c =
+    let part = part_of g.G.Group.codes g.G.Group.dictionary c.args.part.now in
+    let wide = same_width _ _ _ _ _ (g.met.G.Group.laws c.args.part.now.group) c.requires.part.group in
+    let col : c.loop-c.c < length part.columns = omega (arith, c.loop-c-test.true, c.width-c-end.ensures, wide) in
+    let whole : vec_len c.args.part.now.columns ≡ length c.args.part.now.columns.items = search rules in
+    omega (arith, whole, col)
+
+pub bounds-into-place : goal.bounds-into-place
+bounds-into-place g c =
+    let part = part_of g.G.Group.codes g.G.Group.dictionary c.args.part.now in
+    let wide = same_width _ _ _ _ _ (g.met.G.Group.laws c.args.part.now.group) c.requires.part.group in
+    let col : c.loop-c.c < length part.columns = omega (arith, c.loop-c-test.true, c.width-c-end.ensures, wide) in
+    let column : c.index.result.now ≡ column_at part.columns c.loop-c.c =
+    column_read part.columns c.loop-c.c c.index.result.now c.index.ensures col in
+    let within : c.index.result.now < length c.loop-c.into =
+    rw column (omega (arith, c.requires.within c.loop-c.c col, c.loop-c.auto.into)) in
+    within
+
+pub bounds-into-place-in-loop-c : goal.bounds-into-place-in-loop-c
+bounds-into-place-in-loop-c g c =
+    let part = part_of g.G.Group.codes g.G.Group.dictionary c.args.part.now in
+    let wide = same_width _ _ _ _ _ (g.met.G.Group.laws c.args.part.now.group) c.requires.part.group in
+    let col : c.loop-c.c < length part.columns = omega (arith, c.loop-c-test.true, c.width-c-end.ensures, wide) in
+    let column : c.index.result.now ≡ column_at part.columns c.loop-c.c =
+    column_read part.columns c.loop-c.c c.index.result.now c.index.ensures col in
+    let within : c.index.result.now < length c.loop-c.into =
+    rw column (omega (arith, c.requires.within c.loop-c.c col, c.loop-c.auto.into)) in
+    within
+
+pub loop-c-preserved : goal.loop-c-preserved
+loop-c-preserved g c =
+    let part = part_of g.G.Group.codes g.G.Group.dictionary c.args.part.now in
+    let wide = same_width _ _ _ _ _ (g.met.G.Group.laws c.args.part.now.group) c.requires.part.group in
+    let col : c.loop-c.c < length part.columns = omega (arith, c.loop-c-test.true, c.width-c-end.ensures, wide) in
+    let column : c.index.result.now ≡ column_at part.columns c.loop-c.c =
+    column_read part.columns c.loop-c.c c.index.result.now c.index.ensures col in
+    let within : c.index.result.now < length c.loop-c.into =
+    rw column (omega (arith, c.requires.within c.loop-c.c col, c.loop-c.auto.into)) in
+    let place : IsPlaceOf part c.loop-c.into c.loop-c.c c.index.result.now =
+    record { rising = c.requires.part.rising; there = col; is = column; within = within } in
+    let f = λ (l : ℕ). value_of part.tuples l c.loop-c.c in
+    let held : c.index-into-place.result ≡ at c.loop-c.into (column_at part.columns c.loop-c.c) =
+    c.index-into-place.is ∙ get_or_default c.loop-c.into c.index.result.now c.index-into-place.result (pos 0) within
+    ∙ ap (at c.loop-c.into) column in
+    let so_far : IsExtreme g.O.Order.before f c.args.k c.index-into-place.result =
+    subst (IsExtreme g.O.Order.before f c.args.k) (sym held) (c.loop-c.invariant.left c.loop-c.c (omega arith) col) in
+    let chosen : IsExtreme g.O.Order.before f (c.args.k + 1) c.joined.result =
+    subst (IsExtreme g.O.Order.before f (c.args.k + 1)) (sym c.joined.ensures)
+    (extreme_more g.O.Order.before g.O.Order.choice g.met.O.Order.laws f c.args.k c.index-into-place.result
+    c.wide.result
+    (c.wide.ensures ∙ c.value.ensures) so_far) in
+    made_here (IsChosen g.O.Order.before part (c.args.k + 1)) (IsChosen g.O.Order.before part c.args.k)
+    c.loop-c.c part c.args.into.now c.loop-c.into c.index.result.now c.joined.result place chosen c.loop-c.invariant
+
+pub returns : goal.returns
+returns g c =
+    let part = part_of g.G.Group.codes g.G.Group.dictionary c.args.part.now in
+    let wide = same_width _ _ _ _ _ (g.met.G.Group.laws c.args.part.now.group) c.requires.part.group in
+    let all : c.loop-c.c ≡ length part.columns =
+    omega (arith, c.loop-c-test.false, c.width-c-end.ensures, c.loop-c.auto.c-end, wide) in
+    record { made = λ d there. c.loop-c.invariant.done d (omega (arith, there, all)); kept = c.loop-c.invariant.kept }

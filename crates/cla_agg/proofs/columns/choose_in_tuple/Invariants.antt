@@ -1,0 +1,12 @@
+use Rattle.std.proofs.Common.{◌+◌}
+use Rattle.cla_coded.specs.Parts.{part_of}
+use Rattle.cla_agg.specs.Lines.{IsChosen}
+use Rattle.cla_agg.proofs.Placed.{AreMadeBefore}
+use Rattle.cla_agg.proofs.columns.choose_in_tuple.Given as goal
+
+-- the columns before place c
+abbrev pub invariant-loop-c : goal.invariant-loop-c
+invariant-loop-c g l =
+    AreMadeBefore (IsChosen g.O.Order.before (part_of g.G.Group.codes g.G.Group.dictionary l.part) (l.k + 1))
+    (IsChosen g.O.Order.before (part_of g.G.Group.codes g.G.Group.dictionary l.part) l.k) l.c
+    (part_of g.G.Group.codes g.G.Group.dictionary l.part) l.fn.into l.into

@@ -1,0 +1,5 @@
+pub mod Places
+pub mod Ranges
+pub mod Owners
+pub mod Values
+pub mod Segments
