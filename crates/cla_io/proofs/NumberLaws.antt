@@ -2,13 +2,13 @@
 use Rattle.std.proofs.Common.{◌≡◌, ℕ, ◌+◌, ◌-◌, ◌≤◌, List, [], ◌∷◌, ◌++◌, length, get_or, take, drop, slice_range, Option, Some, None, refl, ap, ◌∙◌, arith, append_assoc}
 use Rattle.std.proofs.lemmas.List.{take_at, drop_at, take-append-le, drop-append-le, drop-take, length-take-le, length-drop, length-append, take-append-drop}
 use Rattle.std.specs.Int.{w64, from_le_bytes}
+use Rattle.cla_spec.specs.Bytes.{number_of}
 use borrow.Rule.Slice.PartMut.{put_mid, post_of}
 use lib.Seq.{take-add}
 use Rattle.cla_spec.specs.Files.{Told}
 use Rattle.cla_io.specs.State.{Reading, left_in, left_where_told}
 use Rattle.cla_io.specs.Reads.{Takes}
 use Rattle.cla_io.specs.Lines.{SameBytes}
-use Rattle.cla_io.specs.Numbers.{number_of}
 
 pub grown : (xs ys : List ℕ) (start end k n : ℕ) → start ≤ end → end ≤ length xs → n ≤ length ys
     → slice_range (put_mid end k xs ys) start (end + n) ≡ slice_range xs start end ++ take n ys

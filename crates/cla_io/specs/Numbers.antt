@@ -1,13 +1,9 @@
 -- Numbers that are taken of a file, and the bytes at its start.
 use Rattle.std.specs.Prelude.{◌≡◌, ◌≢◌, ℕ, ◌+◌, ◌*◌, ◌^◌, ◌<◌, ◌≤◌, min, List, [], ◌∷◌, take, drop, length, Option, Some, None, Bool, true, false, ◌==◌, ◌||◌, Result, Ok, Err}
+use Rattle.cla_spec.specs.Bytes.{number_of}
 use Rattle.cla_io.specs.declared.stop.InFault.{InFault}
 use Rattle.cla_io.specs.declared.stop.InFault.TheVariants.{Read, TooLong, Memory}
 use Rattle.cla_io.specs.Lines.{Progress, OnlyHolds}
-
--- the number whose bytes, from low to high, are these
-abbrev pub number_of : List ℕ → ℕ
-number_of [] = 0
-number_of (b ∷ bs) = b + 256 * number_of bs
 
 -- a number has 1, 2, 4 or 8 bytes
 abbrev pub is_number_width : ℕ → Bool

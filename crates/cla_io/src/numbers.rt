@@ -1,10 +1,11 @@
 //! Numbers that are taken of a file, and the bytes at its start.
 
 ghost use Rattle.std.specs.Prelude.{◌≡◌, ℕ, ◌+◌, ◌<◌, ◌≤◌, ◌^◌, [], length, true, take, IsSome, IfOk, OnOk};
+ghost use Rattle.cla_spec.specs.Bytes.{number_of};
 ghost use Rattle.cla_io.specs.State.{left};
 ghost use Rattle.cla_io.specs.Lines.{InCause, IsNotTooLong, SameBytes, IsAllRead, OnlyHolds, ahead_of};
 ghost use Rattle.cla_io.specs.InputFrame.{ReadsOn};
-ghost use Rattle.cla_io.specs.Numbers.{number_of, is_number_width, TakesNumber, TakesNumberWhereTold, CountsNumber, OnlyTooLongNumber, BeginsWhereTold};
+ghost use Rattle.cla_io.specs.Numbers.{is_number_width, TakesNumber, TakesNumberWhereTold, CountsNumber, OnlyTooLongNumber, BeginsWhereTold};
 ghost use Rattle.cla_io.specs.Window.{items, size_of};
 
 use crate::files::Files;

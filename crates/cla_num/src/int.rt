@@ -62,6 +62,10 @@ impl<const B: u32> Number for Int<B> {
         put_decimal(self.value as i128, into)
     }
 
+    fn to_le(self) -> [u8; 8] {
+        self.value.to_le_bytes()
+    }
+
     ghost in_range = { λ x. x.in_range };
 
     ghost order = { λ x y. refl };

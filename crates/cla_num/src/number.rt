@@ -4,6 +4,7 @@ ghost use Rattle.std.specs.Prelude.{◌≡◌, ℕ, ℤ, ◌≤◌, ◌+◌, ◌
 ghost use Rattle.std.specs.Int.{w128};
 ghost use Rattle.std.specs.Int.RustNames.{FitsSigned};
 ghost use Rattle.std.specs.Ordering.{int_cmp, int_eq};
+ghost use Rattle.cla_spec.specs.Bytes.{value_bytes};
 ghost use Rattle.cla_spec.specs.Numbers.{InRange, decimal_of};
 ghost use Rattle.cla_num.specs.Bits.{IsSupported};
 ghost use Rattle.cla_num.specs.Cells.{cell_value};
@@ -65,6 +66,10 @@ pub trait Number: Copy + Ord + Eq + Hash {
         ensures text { take result into.new ≡ decimal_of (value self) }
         ensures length { result ≡ length (decimal_of (value self)) }
         ensures within { result ≤ 40 };
+
+    /// The eight bytes of the integer in two's complement, the lowest first.
+    fn to_le(self) -> [u8; 8]
+        ensures { result ≡ value_bytes 8 (value self) };
 
     /// A number is in range.
     ghost in_range: { (x : Self) → InRange BITS (value x) };

@@ -1,8 +1,9 @@
 -- What stands behind the columns of a group.
 use Rattle.std.specs.Prelude.{◌≡◌, ℕ, ℤ, List, ◌++◌, length, Bool, ◌&&◌, not, nat_le}
 use Rattle.std.specs.List.{flat_map, AllByRecursion}
+use Rattle.cla_spec.specs.Bytes.{bytes_of}
 use Rattle.cla_packed.specs.declared.fault.FieldName.TheVariants.{Tuples}
-use Rattle.cla_packed.specs.Fields.{Place, Read, bytes_of, field_at, then_at, as_at}
+use Rattle.cla_packed.specs.Fields.{Place, Read, field_at, then_at, as_at}
 use Rattle.cla_layout.specs.GroupLaws.{AreCodesOf}
 use Rattle.cla_layout.specs.Groups.{AreNumbered}
 use Rattle.cla_layout.specs.Canonical.{AreDistinct}

@@ -1,5 +1,6 @@
 -- Fields of a file, read from left to right with the first fault that is met.
 use Rattle.std.specs.Prelude.{◌≡◌, ℕ, zero, suc, ◌+◌, ◌*◌, ◌/◌, ◌%◌, ◌<◌, ◌≤◌, List, [], ◌∷◌, ◌++◌, length, take, drop, min, Result, Ok, Err, Bool, nat_lt, ◌==◌, slice_index_or, if◌then◌else◌}
+use Rattle.cla_spec.specs.Bytes.{number_of}
 use Rattle.cla_packed.specs.declared.fault.FieldName.{FieldName}
 use Rattle.cla_packed.specs.declared.fault.PackFault.{PackFault}
 use Rattle.cla_packed.specs.declared.fault.PackFault.TheVariants.{Field, Trailing, TooLarge, TooLong, Memory}
@@ -19,21 +20,6 @@ infixl 10 ◌>>=◌
 abbrev pub ◌>>=◌ : {A B : Type 0} → Result A PackFault → (A → Result B PackFault) → Result B PackFault
 (Ok x) >>= f = f x
 (Err e) >>= f = Err e
-
--- the number whose bytes, from low to high, are these
-abbrev pub number_of : List ℕ → ℕ
-number_of [] = 0
-number_of (b ∷ bs) = b + 256 * number_of bs
-
--- the k low bytes of a number, from low to high
-abbrev pub bytes_of : ℕ → ℕ → List ℕ
-bytes_of zero n = []
-bytes_of (suc k) n = n % 256 ∷ bytes_of k (n / 256)
-
--- one more than the greatest number of k bytes
-abbrev pub past : ℕ → ℕ
-past zero = 1
-past (suc k) = 256 * past k
 
 -- the place after the first n bytes
 abbrev pub after : ℕ → Place → Place

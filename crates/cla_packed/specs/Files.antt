@@ -1,12 +1,13 @@
 -- Packed files, version 1.
 use Rattle.std.specs.Prelude.{◌≡◌, ℕ, ℤ, zero, suc, ◌+◌, ◌*◌, ◌^◌, List, [], ◌++◌, length, codes, map, Bool, true, ◌==◌, ◌&&◌, ◌||◌, not, nat_lt, nat_le, if◌then◌else◌}
 use Rattle.std.specs.List.{flat_map, list_all, range_with_len, AllByRecursion}
+use Rattle.cla_spec.specs.Bytes.{bytes_of, number_of}
 use Rattle.cla_packed.specs.declared.fault.FieldName.TheVariants as names
 use Rattle.cla_packed.specs.declared.fault.PackFault.TheVariants.{TooLarge}
 use Rattle.cla_layout.specs.declared.kind.Kind.{Kind}
 use Rattle.cla_layout.specs.declared.kind.Kind.TheVariants as kinds
 use Rattle.cla_layout.specs.Kinds.{kind_number}
-use Rattle.cla_packed.specs.Fields.{Place, Read, bytes_of, number_of, field_at, refused_at, then_at, list_at, as_at, EachIs}
+use Rattle.cla_packed.specs.Fields.{Place, Read, field_at, refused_at, then_at, list_at, as_at, EachIs}
 use Rattle.cla_packed.specs.Values.{tuple_bytes, tuples_at, IsTuple}
 use Rattle.cla_packed.specs.Codes.{has}
 use Rattle.cla_packed.specs.Lists.{next_from}

@@ -1,8 +1,9 @@
 -- Offset lists: the rows of a tuple, segment by segment.
 use Rattle.std.specs.Prelude.{ℕ, zero, suc, ◌+◌, ◌-◌, ◌*◌, ◌/◌, ◌%◌, List, [], ◌∷◌, ◌++◌, length, take, drop, min, Bool, ◌&&◌, ◌||◌, not, nat_lt, nat_le}
 use Rattle.std.specs.List.{flat_map, prefix_len}
+use Rattle.cla_spec.specs.Bytes.{bytes_of}
 use Rattle.cla_packed.specs.declared.fault.FieldName.TheVariants.{Count, Offset}
-use Rattle.cla_packed.specs.Fields.{Place, Read, bytes_of, field_at, then_at, list_at, as_at}
+use Rattle.cla_packed.specs.Fields.{Place, Read, field_at, then_at, list_at, as_at}
 use Rattle.cla_packed.specs.Lists.{next_from, named, floor_of}
 
 -- a row that may stand behind these rows of its tuple: above them, in no list before, and if it is the first one then

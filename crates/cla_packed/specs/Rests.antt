@@ -1,8 +1,9 @@
 -- The rest: the tuple whose rows no list names.
 use Rattle.std.specs.Prelude.{ℕ, ℤ, pos, ◌+◌, ◌-◌, ◌<◌, ◌≤◌, List, [], ◌∷◌, ◌++◌, length, map, take, drop, replicate, Option, None, Some, Bool, ◌==◌, ◌&&◌, not, nat_lt, nat_le, if◌then◌else◌}
 use Rattle.std.specs.List.{list_all, flat_map, position_or_len, range_with_len}
+use Rattle.cla_spec.specs.Bytes.{bytes_of}
 use Rattle.cla_packed.specs.declared.fault.FieldName.TheVariants.{Tuples, Rest, Cover}
-use Rattle.cla_packed.specs.Fields.{Place, Read, bytes_of, field_at, checked_at, then_at, list_at, as_at}
+use Rattle.cla_packed.specs.Fields.{Place, Read, field_at, checked_at, then_at, list_at, as_at}
 use Rattle.cla_layout.specs.Groups.{first_row_of}
 use Rattle.cla_layout.specs.Listed.{is_zero, rest_of}
 use Rattle.cla_packed.specs.Values.{tuple_bytes, tuples_at, is_among}

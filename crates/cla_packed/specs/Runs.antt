@@ -1,8 +1,9 @@
 -- Runs of rows, each as the gap behind the run before and its length.
 use Rattle.std.specs.Prelude.{ℕ, suc, ◌+◌, ◌-◌, List, [], ◌∷◌, ◌++◌, length, Bool, ◌&&◌, ◌||◌, ◌==◌, not, nat_lt, nat_le, if◌then◌else◌}
 use Rattle.std.specs.List.{flat_map, list_all, range_with_len}
+use Rattle.cla_spec.specs.Bytes.{bytes_of}
 use Rattle.cla_packed.specs.declared.fault.FieldName.TheVariants.{Runs, Gap, Length}
-use Rattle.cla_packed.specs.Fields.{Place, Read, bytes_of, field_at, then_at, list_at, as_at}
+use Rattle.cla_packed.specs.Fields.{Place, Read, field_at, then_at, list_at, as_at}
 use Rattle.cla_packed.specs.Lists.{named, floor_of}
 
 -- a gap and a length

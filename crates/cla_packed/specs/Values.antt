@@ -3,29 +3,14 @@ use Rattle.std.specs.Prelude.{◌≡◌, ℕ, ℤ, pos, negsuc, suc, ◌-◌, �
 use Rattle.std.specs.List.{flat_map, list_any, AllByRecursion}
 use Rattle.std.specs.Ordering.{int_eq}
 use Rattle.std.specs.Cmp.Lexicographic.{pointwise}
+use Rattle.cla_spec.specs.Bytes.{Holds, signed_of, value_bytes}
 use Rattle.cla_packed.specs.declared.fault.FieldName.TheVariants.{Value}
-use Rattle.cla_packed.specs.Fields.{Place, Read, past, bytes_of, field_at, as_at, list_at}
+use Rattle.cla_packed.specs.Fields.{Place, Read, field_at, as_at, list_at}
 use Rattle.cla_spec.specs.Numbers.{in_range}
-
--- a number of k bytes as a value in two's complement, and back
-abbrev pub signed_of : ℕ → ℕ → ℤ
-signed_of k n = if nat_lt (2 * n) (past k) then pos n else negsuc (past k - suc n)
-
-abbrev pub unsigned_of : ℕ → ℤ → ℕ
-unsigned_of k (pos n) = n
-unsigned_of k (negsuc n) = past k - suc n
-
--- a value that k bytes can hold
-abbrev pub Holds : ℕ → ℤ → Type 0
-Holds k (pos n) = 2 * n < past k
-Holds k (negsuc n) = 2 * suc n ≤ past k
 
 -- a value of k bytes that passes a test
 unfoldable pub value_at : ℕ → (ℤ → Bool) → ℕ → Place → Read ℤ
 value_at k test group p = as_at (signed_of k) (field_at k (λ n. test (signed_of k n)) group Value) p
-
-abbrev pub value_bytes : ℕ → ℤ → List ℕ
-value_bytes k v = bytes_of k (unsigned_of k v)
 
 abbrev pub tuple_bytes : ℕ → List ℤ → List ℕ
 tuple_bytes k tuple = flat_map (value_bytes k) tuple

@@ -3,3 +3,4 @@ pub mod Matrix
 pub mod Lines
 pub mod Files
 pub mod Effects
+pub mod Bytes
