@@ -1,11 +1,13 @@
 -- Lists of rows, and the first one that names a row.
-use Rattle.std.proofs.Common.{◌≡◌, ℕ, suc, ◌+◌, ◌<◌, ◌≤◌, Bool, true, false, eqb, List, [], ◌∷◌, ◌++◌, length, refl, sym, ap, ◌∙◌, arith, inl, inr}
+use Rattle.std.proofs.Common.{◌≡◌, ℕ, suc, ◌+◌, ◌<◌, ◌≤◌, Bool, true, false, eqb, List, [], ◌∷◌, ◌++◌, length, get_or, map, refl, sym, ap, ◌∙◌, append_assoc, append-nil, arith, inl, inr}
 use Rattle.std.specs.Prelude.{nat_lt, nat_le, ◌&&◌, ◌||◌, not}
 use Rattle.std.proofs.lemmas.Bool.{cases_Bool, cases_lt, lt-ltb, le-ltb, leb-true, and_parts, not-true}
+use Rattle.std.specs.List.{range_with_len}
 use Rattle.std.proofs.lemmas.List.Folds.{list_any-append}
+use Rattle.std.proofs.lemmas.List.FromFn.{get_or-map-range_with_len}
 use Rattle.cla_packed.specs.Codes.{has}
 use Rattle.cla_packed.specs.Lists.{next_from, named, floor_of, owner_in}
-use Rattle.cla_packed.specs.Offsets.{fits_row}
+use Rattle.cla_packed.specs.Offsets.{fits_row, joined}
 
 pub or_false : (b : Bool) → (b || false) ≡ b
 or_false true = refl
@@ -42,3 +44,12 @@ row_parts earlier so_far i h =
     || nat_le (floor_of earlier) i) h in
     let b = and_parts (nat_le (next_from 0 so_far) i) (not (named earlier i)) a.0 in
     (leb-true (next_from 0 so_far) i b.0, not-true (named earlier i) b.1, a.1)
+
+pub joined-append : (before : List (List ℕ)) (segment : List ℕ)
+    → joined (before ++ segment ∷ []) ≡ joined before ++ segment
+joined-append [] segment = append-nil segment
+joined-append (list ∷ before) segment = ap (λ (l : List ℕ). list ++ l) (joined-append before segment)
+    ∙ sym (append_assoc list (joined before) segment)
+
+pub in_map : {X : Type 0} (f : ℕ → X) (n i : ℕ) (d : X) → i < n → get_or (map f (range_with_len 0 n)) i d ≡ f i
+in_map f n i d lt = get_or-map-range_with_len f 0 n i i d lt (omega arith)

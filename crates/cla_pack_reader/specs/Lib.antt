@@ -3,3 +3,13 @@ pub mod Ranges
 pub mod Owners
 pub mod Values
 pub mod Segments
+pub mod Runs
+pub mod Listings
+pub mod Headers
+pub mod Seen
+pub mod Tuples
+pub mod Bodies
+pub mod Marks
+pub mod Taken
+pub mod Kept
+pub mod Reading

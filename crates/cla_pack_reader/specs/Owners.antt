@@ -5,8 +5,8 @@ use Rattle.cla_packed.specs.Codes.{has}
 use Rattle.cla_packed.specs.Lists.{next_from, first_of, floor_of, owner_in}
 use Rattle.cla_pack_reader.specs.declared.owners.Walk.{Walk}
 
--- behind the lists of t tuples and some rows of the next one: each row has the first list that names it, or t where it is
--- one of these rows, or d
+-- behind the lists of t tuples and some rows of the next one: each row has the first list that names it, or t where it
+-- is one of these rows, or d
 pub record IsState (t d : ℕ) (earlier : List (List ℕ)) (so_far owners : List ℕ) (walk : Walk) (floor : ℕ) : Type 0 where
   pub count : length earlier ≡ t
   pub few : t ≤ d

@@ -1,11 +1,10 @@
 //! Single fields.
 
-ghost use Rattle.std.specs.Prelude.{◌≡◌, ◌<◌, ◌≤◌, ◌^◌, true, IfOk};
-ghost use Rattle.cla_io.specs.State.{left};
+ghost use Rattle.std.specs.Prelude.{◌≡◌, ◌+◌, ◌<◌, ◌≤◌, ◌^◌, true, IfOk, OnOk};
 ghost use Rattle.cla_io.specs.InputFrame.{ReadsOn};
 ghost use Rattle.cla_io.specs.Numbers.{is_number_width};
-ghost use Rattle.cla_packed.specs.Fields.{Gives, number_at, field_at};
-ghost use Rattle.cla_pack_reader.specs.Places.{place_of, IsTold, HasReadCause};
+ghost use Rattle.cla_packed.specs.Fields.{number_at, field_at};
+ghost use Rattle.cla_pack_reader.specs.Places.{places_of, HasReadCause, Reads};
 ghost use Rattle.cla_pack_reader.specs.Ranges.{within};
 
 use cla_io::{Files, InFault, Input};
@@ -25,9 +24,10 @@ pub(crate) fn number<F: Files>(
     ensures cause { HasReadCause (F.state input.old.files.now).read_faults (F.state input.new.files.now).read_faults
         result }
     ensures small { IfOk result (λ n. n < 256 ^ k) }
-    ensures exact { let before = place_of input.old.taken (F.state input.old.files.now) in
-        let after = place_of input.new.taken (F.state input.new.files.now) in
-        IsTold (F.state input.old.files.now) → Gives (λ n. (n, after)) result (number_at k group name before) }
+    ensures moved { OnOk result (input.new.taken.at ≡ input.old.taken.at + k) }
+    ensures exact { let before = places_of input.old.taken (F.state input.old.files.now) in
+        let after = places_of input.new.taken (F.state input.new.files.now) in
+        Reads before after (λ n. n) result (number_at k group name) }
 {
     let at = input.at();
     match input.take(k) {
@@ -59,10 +59,9 @@ pub(crate) fn field<F: Files>(
         result }
     ensures low { IfOk result (λ n. low ≤ n) }
     ensures high { IfOk result (λ n. n ≤ high) }
-    ensures exact { let before = place_of input.old.taken (F.state input.old.files.now) in
-        let after = place_of input.new.taken (F.state input.new.files.now) in
-        IsTold (F.state input.old.files.now) → Gives (λ n. (n, after)) result
-        (field_at k (within low high) group name before) }
+    ensures exact { let before = places_of input.old.taken (F.state input.old.files.now) in
+        let after = places_of input.new.taken (F.state input.new.files.now) in
+        Reads before after (λ n. n) result (field_at k (within low high) group name) }
 {
     let at = input.at();
     let number = match number(input, k, group, name) {

@@ -2,11 +2,11 @@
 
 ghost use Rattle.std.specs.Prelude.{◌≡◌, ℕ, ◌+◌, ◌*◌, ◌^◌, ◌<◌, ◌≤◌, ◌++◌, ◌&&◌, ◌||◌, not, nat_lt, List, [], length, IfOk};
 ghost use Rattle.cla_packed.specs.Fields.{list_at};
-ghost use Rattle.cla_packed.specs.Offsets.{row_at, joined, segment_rows};
+ghost use Rattle.cla_packed.specs.Offsets.{row_at, segment_at, joined, segment_rows};
 ghost use Rattle.cla_pack_reader.specs.Owners.{IsState};
-ghost use Rattle.cla_pack_reader.specs.Places.{place_of, IsTold, HasReadCause};
+ghost use Rattle.cla_pack_reader.specs.Places.{places_of, HasReadCause};
 ghost use Rattle.cla_io.specs.InputFrame.{ReadsOn};
-ghost use Rattle.cla_pack_reader.specs.Segments.{GivesRow};
+ghost use Rattle.cla_pack_reader.specs.Segments.{GivesRow, GivesRows};
 
 use crate::fields::number;
 use crate::owners::{Walk, fits_row, name_row};
@@ -14,7 +14,7 @@ use cla_io::{Files, Input};
 use cla_packed::{FieldName, PackFault};
 
 /// One offset of tuple `t` in the segment of `rows` rows from row `base` on.
-pub(crate) fn offset_of<F: Files>(
+fn offset_of<F: Files>(
     input: &mut Input<'_, F>,
     owners: &mut [u32],
     walk: Walk,
@@ -31,13 +31,14 @@ pub(crate) fn offset_of<F: Files>(
     ensures frame { ReadsOn (F.state input.old.files.now) (F.state input.new.files.now) }
     ensures cause { HasReadCause (F.state input.old.files.now).read_faults (F.state input.new.files.now).read_faults
         result }
-    ensures exact { IsTold (F.state input.old.files.now) → (d size : ℕ) (earlier before : List (List ℕ))
-        (so_far : List ℕ) → base ≡ length before * size → rows ≡ segment_rows size (length owners.old) (length before)
+    ensures exact { let start = places_of input.old.taken (F.state input.old.files.now) in
+        let end = places_of input.new.taken (F.state input.new.files.now) in
+        let all = length owners.old in
+        (d size : ℕ) (earlier before : List (List ℕ)) (so_far : List ℕ) → base ≡ length before * size
+        → rows ≡ segment_rows size all (length before)
         → IsState t d earlier (joined before ++ so_far) owners.old walk floor
-        → GivesRow t d earlier (joined before ++ so_far) owners.new floor result
-        (place_of input.new.taken (F.state input.new.files.now))
-        (row_at size (length owners.old) group earlier before so_far
-        (place_of input.old.taken (F.state input.old.files.now))) }
+        → GivesRow t d earlier (joined before ++ so_far) owners.new floor result start end
+        (row_at size all group earlier before so_far) }
 {
     let at = input.at();
     let offset = match number(input, 2, group, FieldName::Offset) {
@@ -59,4 +60,98 @@ pub(crate) fn offset_of<F: Files>(
         });
     }
     Ok(name_row(owners, walk, t, base + offset))
+}
+
+/// The offsets of a segment, `n` of them.
+fn offsets_of<F: Files>(
+    input: &mut Input<'_, F>,
+    owners: &mut [u32],
+    walk: Walk,
+    group: u32,
+    t: u32,
+    floor: u64,
+    base: u32,
+    rows: u32,
+    n: u32,
+) -> Result<Walk, PackFault>
+    requires within { base + rows ≤ length owners.old }
+    requires few { length owners.old < 2 ^ 32 }
+    ensures size { length owners.new ≡ length owners.old }
+    ensures same_reference { input.new.files.ghost_name ≡ input.old.files.ghost_name }
+    ensures frame { ReadsOn (F.state input.old.files.now) (F.state input.new.files.now) }
+    ensures cause { HasReadCause (F.state input.old.files.now).read_faults (F.state input.new.files.now).read_faults
+        result }
+    ensures exact { let start = places_of input.old.taken (F.state input.old.files.now) in
+        let end = places_of input.new.taken (F.state input.new.files.now) in
+        let all = length owners.old in
+        (d size : ℕ) (earlier before : List (List ℕ)) → base ≡ length before * size
+        → rows ≡ segment_rows size all (length before) → IsState t d earlier (joined before) owners.old walk floor
+        → GivesRows t d earlier (joined before) owners.new floor result start end
+        (list_at (λ left so_far. row_at size all group earlier before so_far) n []) }
+{
+    let mut walk = walk;
+    for _j in 0..n {
+        match offset_of(input, owners, walk, group, t, floor, base, rows) {
+            Ok(next) => walk = next,
+            Err(fault) => return Err(fault),
+        }
+    }
+    Ok(walk)
+}
+
+/// The number of a segment's rows, and each of them. `last` says that no segment is behind it.
+pub(crate) fn segment_of<F: Files>(
+    input: &mut Input<'_, F>,
+    owners: &mut [u32],
+    walk: Walk,
+    group: u32,
+    t: u32,
+    floor: u64,
+    base: u32,
+    rows: u32,
+    last: bool,
+) -> Result<Walk, PackFault>
+    requires within { base + rows ≤ length owners.old }
+    requires few { length owners.old < 2 ^ 32 }
+    ensures size { length owners.new ≡ length owners.old }
+    ensures same_reference { input.new.files.ghost_name ≡ input.old.files.ghost_name }
+    ensures frame { ReadsOn (F.state input.old.files.now) (F.state input.new.files.now) }
+    ensures cause { HasReadCause (F.state input.old.files.now).read_faults (F.state input.new.files.now).read_faults
+        result }
+    ensures exact { let start = places_of input.old.taken (F.state input.old.files.now) in
+        let end = places_of input.new.taken (F.state input.new.files.now) in
+        let all = length owners.old in
+        (d size left : ℕ) (earlier before : List (List ℕ)) → base ≡ length before * size
+        → rows ≡ segment_rows size all (length before) → last ≡ not (nat_lt 0 left)
+        → IsState t d earlier (joined before) owners.old walk floor
+        → GivesRows t d earlier (joined before) owners.new floor result start end
+        (segment_at size all group earlier left before) }
+{
+    let at = input.at();
+    let n = match number(input, 2, group, FieldName::Count) {
+        Ok(n) => n as u32,
+        Err(fault) => return Err(fault),
+    };
+    if n > rows {
+        return Err(PackFault::Field {
+            group,
+            field: FieldName::Count,
+            at,
+        });
+    }
+    if is_empty(last, walk.started, n) {
+        return Err(PackFault::Field {
+            group,
+            field: FieldName::Count,
+            at,
+        });
+    }
+    offsets_of(input, owners, walk, group, t, floor, base, rows, n)
+}
+
+// Whether a tuple would have no row at its last segment.
+fn is_empty(last: bool, started: bool, n: u32) -> bool
+    ensures { result ≡ (last && not (started || nat_lt 0 n)) }
+{
+    last && !(started || n > 0)
 }

@@ -1,12 +1,13 @@
 //! Values, and the values of a tuple that any may be.
 
-ghost use Rattle.std.specs.Prelude.{◌≡◌, ℤ, ◌+◌, ◌≤◌, List, Bool, length, OnOk};
+ghost use Rattle.std.specs.Prelude.{◌≡◌, ℤ, ◌+◌, ◌-◌, ◌≤◌, List, Bool, length, OnOk};
+ghost use Rattle.cla_spec.specs.Bytes.{signed_of};
 ghost use Rattle.cla_spec.specs.Numbers.{InRange, in_range};
 ghost use Rattle.cla_num.specs.Bits.{IsSupported};
 ghost use Rattle.cla_io.specs.InputFrame.{ReadsOn};
-ghost use Rattle.cla_packed.specs.Fields.{Gives, number_at};
-ghost use Rattle.cla_packed.specs.Values.{signed_of, tuple_at};
-ghost use Rattle.cla_pack_reader.specs.Places.{place_of, IsTold, HasReadCause};
+ghost use Rattle.cla_packed.specs.Fields.{number_at};
+ghost use Rattle.cla_packed.specs.Values.{tuple_at};
+ghost use Rattle.cla_pack_reader.specs.Places.{places_of, HasReadCause};
 ghost use Rattle.cla_pack_reader.specs.Values.{TestsRange, GivesValue, GivesPushed, GivesTuple};
 
 use crate::fields::number;
@@ -33,10 +34,11 @@ pub(crate) fn value<N: Number, F: Files>(
     ensures frame { ReadsOn (F.state input.old.files.now) (F.state input.new.files.now) }
     ensures cause { HasReadCause (F.state input.old.files.now).read_faults (F.state input.new.files.now).read_faults
         result }
-    ensures exact { let before = place_of input.old.taken (F.state input.old.files.now) in
-        let after = place_of input.new.taken (F.state input.new.files.now) in
-        IsTold (F.state input.old.files.now) → (test : ℤ → Bool) → TestsRange N.BITS test
-        → GivesValue N.value 8 test group before after result }
+    ensures moved { OnOk result (input.new.taken.at ≡ input.old.taken.at + 8) }
+    ensures exact { let before = places_of input.old.taken (F.state input.old.files.now) in
+        let after = places_of input.new.taken (F.state input.new.files.now) in
+        (test : ℤ → Bool) → TestsRange N.BITS test
+        → GivesValue N.value 8 test group before after input.old.taken.at result }
 {
     let at = input.at();
     let number = match number(input, 8, group, FieldName::Value) {
@@ -65,10 +67,12 @@ pub(crate) fn push_value<N: Number, F: Files>(
     ensures cause { HasReadCause (F.state input.old.files.now).read_faults (F.state input.new.files.now).read_faults
         result }
     ensures count { OnOk result (length values.new.items ≡ length values.old.items + 1) }
-    ensures exact { let before = place_of input.old.taken (F.state input.old.files.now) in
-        let after = place_of input.new.taken (F.state input.new.files.now) in
-        IsTold (F.state input.old.files.now) → (test : ℤ → Bool) → TestsRange N.BITS test
-        → GivesPushed N.value 8 N.BITS test group before after values.old.items values.new.items result }
+    ensures moved { OnOk result (input.new.taken.at ≡ input.old.taken.at + 8) }
+    ensures exact { let before = places_of input.old.taken (F.state input.old.files.now) in
+        let after = places_of input.new.taken (F.state input.new.files.now) in
+        (test : ℤ → Bool) → TestsRange N.BITS test
+        → GivesPushed N.value 8 N.BITS test group before after input.old.taken.at values.old.items values.new.items
+        result }
 {
     let next = match value(input, group) {
         Ok(next) => next,
@@ -95,10 +99,12 @@ pub(crate) fn tuple<N: Number, F: Files>(
     ensures cause { HasReadCause (F.state input.old.files.now).read_faults (F.state input.new.files.now).read_faults
         result }
     ensures count { OnOk result (length values.new.items ≡ length values.old.items + width) }
-    ensures exact { let before = place_of input.old.taken (F.state input.old.files.now) in
-        let after = place_of input.new.taken (F.state input.new.files.now) in
-        IsTold (F.state input.old.files.now) → (whole : List ℤ → Bool)
-        → GivesTuple N.value 8 N.BITS group width whole before after values.old.items values.new.items result }
+    ensures far { OnOk result (8 ≤ input.new.taken.at) }
+    ensures exact { let before = places_of input.old.taken (F.state input.old.files.now) in
+        let after = places_of input.new.taken (F.state input.new.files.now) in
+        (whole : List ℤ → Bool)
+        → GivesTuple N.value 8 N.BITS group width whole before after (input.new.taken.at - 8) values.old.items
+        values.new.items result }
 {
     for _j in 0..width - 1 {
         match push_value(input, values, group) {

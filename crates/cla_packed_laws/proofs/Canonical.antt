@@ -14,7 +14,7 @@ use Rattle.cla_spec.specs.Numbers.{in_range}
 use Rattle.cla_layout.specs.Canonical.{AreDistinct}
 use Rattle.cla_layout.specs.Layouts.{IsPartition}
 use Rattle.cla_layout.specs.GroupLaws.{AreCodesOf}
-use Rattle.cla_packed.specs.Values.{Holds, IsTuple}
+use Rattle.cla_packed.specs.Values.{IsTuple}
 use Rattle.cla_packed.specs.Codes.{has}
 use Rattle.cla_packed.specs.Lists.{RisingFrom, first_of}
 use Rattle.cla_packed.specs.Offsets.{joined}
@@ -27,6 +27,7 @@ use Rattle.cla_layout.specs.Canonical.{HasKind, kind_at, IsCanonical}
 use Rattle.cla_packed.specs.Layouts.{part_of, layout_in, kinds_in}
 use Rattle.cla_packed_laws.proofs.Codes.{has_at, has_occurring, first_among, first_holds, occurs}
 use Rattle.std.proofs.Math.Nat.{mul-le-mul_left, le-mul_of_pos_right, mul_comm}
+use Rattle.cla_spec.specs.Bytes.{Holds}
 use Rattle.cla_packed_laws.proofs.Files.{width_parts}
 use Rattle.cla_packed_laws.proofs.Columns.{AreOrdered, columns_ordered, columns_again}
 
@@ -114,13 +115,13 @@ join_here k bits rows cols before (g ∷ groups) h b = (
 
 -- ---- a group's tuples by places
 
-tuples_full : (width : ℕ) (ts : List (List ℤ)) → AllByRecursion (IsTuple 8 47 width) ts
+tuples_full : (bits width : ℕ) (ts : List (List ℤ)) → AllByRecursion (IsTuple 8 bits width) ts
     → ((q : ℕ) → q < length ts → length (get_or ts q []) ≡ width) × ((q c : ℕ) → q < length ts → c < width
-    → InRange 47 (value_of ts q c))
-tuples_full width ts h = (
-  λ q lt. (all_in (IsTuple 8 47 width) ts q [] h lt).full,
-  λ q c lt fits. (let t = all_in (IsTuple 8 47 width) ts q [] h lt in
-      ltb-true _ (2 ^ 47) (all_in (λ v. Holds 8 v × (in_range 47 v ≡ true)) (get_or ts q []) c (pos 0) t.each
+    → InRange bits (value_of ts q c))
+tuples_full bits width ts h = (
+  λ q lt. (all_in (IsTuple 8 bits width) ts q [] h lt).full,
+  λ q c lt fits. (let t = all_in (IsTuple 8 bits width) ts q [] h lt in
+      ltb-true _ (2 ^ bits) (all_in (λ v. Holds 8 v × (in_range bits v ≡ true)) (get_or ts q []) c (pos 0) t.each
       (omega (arith, fits, t.full))).1),
 )
 
@@ -159,17 +160,17 @@ own_codes_are rows =
 
 -- ---- one group
 
-record IsPartHere (rows width : ℕ) (kind : Kind) (columns : List ℕ) (body : Body) : Type 0 where
+record IsPartHere (bits rows width : ℕ) (kind : Kind) (columns : List ℕ) (body : Body) : Type 0 where
   count : length body.codes ≡ rows
-  group : IsGroup 47 width body.codes body.tuples
+  group : IsGroup bits width body.codes body.tuples
   numbered : AreNumbered body.codes (length body.tuples)
   kind_is : HasKind kind (record { columns = columns; codes = body.codes; tuples = body.tuples })
 
-group_from : (rows width : ℕ) (body : Body) → 1 ≤ rows → 1 ≤ width → rows * width ≤ 2 ^ 26 → length body.codes ≡ rows
-    → AreCodesOf (length body.tuples) body.codes → AllByRecursion (IsTuple 8 47 width) body.tuples
-    → IsGroup 47 width body.codes body.tuples
-group_from rows width body row column few count codes tuples =
-    let t = tuples_full width body.tuples tuples in
+group_from : (bits rows width : ℕ) (body : Body) → 1 ≤ rows → 1 ≤ width → rows * width ≤ 2 ^ 26 → length body.codes ≡ rows
+    → AreCodesOf (length body.tuples) body.codes → AllByRecursion (IsTuple 8 bits width) body.tuples
+    → IsGroup bits width body.codes body.tuples
+group_from bits rows width body row column few count codes tuples =
+    let t = tuples_full bits width body.tuples tuples in
     record {
       a_row = omega (arith, row, count);
       a_column = column;
@@ -180,40 +181,40 @@ group_from rows width body row column few count codes tuples =
       small = t.1;
     }
 
-body_part : (rows width : ℕ) (columns : List ℕ) (kind : Kind) (body : Body) → 1 ≤ rows → 1 ≤ width
-    → rows * width ≤ 2 ^ 26 → IsBodyOf kind 8 47 rows width body → IsPartHere rows width kind columns body
-body_part rows width columns kinds.Plain body row column few h =
+body_part : (bits rows width : ℕ) (columns : List ℕ) (kind : Kind) (body : Body) → 1 ≤ rows → 1 ≤ width
+    → rows * width ≤ 2 ^ 26 → IsBodyOf kind 8 bits rows width body → IsPartHere bits rows width kind columns body
+body_part bits rows width columns kinds.Plain body row column few h =
     let own = own_codes_are rows in
     let count : length body.codes ≡ rows = ap (λ (l : List ℕ). length l) h.own ∙ length-range_with_len 0 rows in
     record {
       count = count;
-      group = group_from rows width body row column few count
+      group = group_from bits rows width body row column few count
           (subst (λ (l : List ℕ). AreCodesOf (length body.tuples) l) (sym h.own)
           (subst (λ (n : ℕ). AreCodesOf n (range_with_len 0 rows)) (sym h.count) own.0)) h.each;
       numbered = subst (λ (l : List ℕ). AreNumbered l (length body.tuples)) (sym h.own)
           (subst (λ (n : ℕ). AreNumbered (range_with_len 0 rows) n) (sym h.count) own.1);
       kind_is = h.own ∙ ap (range_with_len 0) (sym count);
     }
-body_part rows width columns kinds.Codes body row column few h = record {
+body_part bits rows width columns kinds.Codes body row column few h = record {
   count = h.a_code_each;
   group =
-      group_from rows width body row column few h.a_code_each h.canonical.codes_are h.each;
+      group_from bits rows width body row column few h.a_code_each h.canonical.codes_are h.each;
   numbered =
       h.canonical.numbered;
   kind_is = h.distinct;
 }
-body_part rows width columns kinds.Offsets body row column few h = record {
+body_part bits rows width columns kinds.Offsets body row column few h = record {
   count = h.a_code_each;
   group =
-      group_from rows width body row column few h.a_code_each h.canonical.codes_are h.each;
+      group_from bits rows width body row column few h.a_code_each h.canonical.codes_are h.each;
   numbered =
       h.canonical.numbered;
   kind_is = h.distinct;
 }
-body_part rows width columns kinds.Runs body row column few h = record {
+body_part bits rows width columns kinds.Runs body row column few h = record {
   count = h.a_code_each;
   group =
-      group_from rows width body row column few h.a_code_each h.canonical.codes_are h.each;
+      group_from bits rows width body row column few h.a_code_each h.canonical.codes_are h.each;
   numbered =
       h.canonical.numbered;
   kind_is = h.distinct;
@@ -251,7 +252,7 @@ plain_count rows n codes own h some =
     ]
 
 part_body : (rows width : ℕ) (columns : List ℕ) (kind : Kind) (body : Body) → 1 ≤ rows
-    → IsPartHere rows width kind columns body → IsBodyOf kind 8 47 rows width body
+    → IsPartHere 47 rows width kind columns body → IsBodyOf kind 8 47 rows width body
 part_body rows width columns kinds.Plain body row h =
     let own : body.codes ≡ range_with_len 0 rows = h.kind_is ∙ ap (range_with_len 0) h.count in
     record {
@@ -325,27 +326,27 @@ size_is : (n : ℕ) → fits_size n ≡ true → 1 ≤ n
 size_is n h = leb-true 1 n (and_parts (nat_le 1 n) (nat_lt n (2 ^ 31)) h).0
 
 -- a file's layout is canonical
-pub canonical_from : (l : PackedLayout) → IsFile 8 47 l → IsCanonical 47 (layout_in l) (kinds_in l)
-canonical_from l h =
+pub canonical_of : (bits : ℕ) (l : PackedLayout) → IsFile 8 bits l → IsCanonical bits (layout_in l) (kinds_in l)
+canonical_of bits l h =
     let gs = l.groups in
     let row = size_is l.rows h.rows in
     let col = size_is l.cols h.cols in
     let few : l.rows * l.cols ≤ 2 ^ 26 = leb-true (l.rows * l.cols) (2 ^ 26) h.few in
     let n = and_parts (nat_le 1 (length gs)) (nat_le (length gs) l.cols) h.count in
     let some : 1 ≤ length gs = leb-true 1 (length gs) n.0 in
-    let s = split_here 8 47 l.rows l.cols [] gs h.groups in
+    let s = split_here 8 bits l.rows l.cols [] gs h.groups in
     let ordered = columns_ordered l.cols (lists_in gs)
     (omega (arith, some, length-map gs (λ (g : PackedGroup). g.columns))) s.0 in
-    let widths = widths_all 8 47 l.rows l.cols [] gs h.groups in
+    let widths = widths_all 8 bits l.rows l.cols [] gs h.groups in
     let rising = rising_lists gs ordered.each in
     let size = length-map gs part_of in
     let Here = λ (q : ℕ). (q < length gs) in
     let part = λ (q : ℕ) (lt : q < length gs).
     (let w = all_groups (λ g. (1 ≤ length g.columns) × (length g.columns ≤ l.cols)) gs q widths lt in
     let narrow = mul-le-mul_left l.rows w.1 in
-    body_part l.rows (length (group_in gs q).columns) (group_in gs q).columns (group_in gs q).kind
+    body_part bits l.rows (length (group_in gs q).columns) (group_in gs q).columns (group_in gs q).kind
     (group_in gs q).body row w.0 (omega (arith, narrow, few))
-    (all_groups (λ g. IsBodyOf g.kind 8 47 l.rows (length g.columns) g.body) gs q s.1 lt)) in
+    (all_groups (λ g. IsBodyOf g.kind 8 bits l.rows (length g.columns) g.body) gs q s.1 lt)) in
     record {
       whole = record {
         a_row = row;
@@ -355,7 +356,7 @@ canonical_from l h =
         each = λ q lt.
             let here : q < length gs = omega (arith, lt, size) in
             let p = part q here in
-            subst (IsPart 47 l.rows) (sym (part_is gs q here)) (record {
+            subst (IsPart bits l.rows) (sym (part_is gs q here)) (record {
               rising = λ c d order fits. rising_far 0 c d (group_in gs q).columns
                   (all_groups (λ g. (0 < length g.columns) × RisingFrom 0 g.columns) gs q rising here).1 order fits;
               a_code_each = p.count;
@@ -385,6 +386,9 @@ canonical_from l h =
           (subst (λ (kind : Kind). HasKind kind (part_of (group_in gs q))) (sym (kind_is gs q here))
           (part q here).kind_is));
     }
+
+pub canonical_from : (l : PackedLayout) → IsFile 8 47 l → IsCanonical 47 (layout_in l) (kinds_in l)
+canonical_from = canonical_of 47
 
 some_group : (cols : ℕ) (groups : List PackedGroup) → 1 ≤ cols → IsPartition cols (all_columns (map part_of groups))
     → 1 ≤ length groups

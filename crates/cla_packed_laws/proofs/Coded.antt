@@ -3,8 +3,9 @@ use Rattle.std.proofs.Common.{◌≡◌, ℕ, ℤ, zero, suc, ◌+◌, ◌<◌, 
 use Rattle.std.specs.Prelude.{nat_le}
 use Rattle.std.specs.List.{flat_map, AllByRecursion}
 use Rattle.std.proofs.lemmas.Bool.{cases_Bool, le-leb, leb-true, and_from}
+use Rattle.cla_spec.specs.Bytes.{bytes_of, past}
 use Rattle.cla_packed.specs.declared.fault.FieldName.TheVariants.{Tuples, Code}
-use Rattle.cla_packed.specs.Fields.{past, bytes_of, field_at, then_at, EachIs}
+use Rattle.cla_packed.specs.Fields.{field_at, then_at, EachIs}
 use Rattle.cla_layout.specs.Groups.{first_row_of, AreNumbered}
 use Rattle.cla_packed.specs.Values.{tuple_bytes, tuples_at, IsTuple}
 use Rattle.cla_packed.specs.Codes.{fits_code, code_bytes, codes_at}

@@ -5,7 +5,8 @@ use Rattle.std.proofs.lemmas.Bool.{cases_lt, cases_eq, cases_Bool, lt-ltb, le-lt
 use Rattle.std.proofs.lemmas.List.{length-append, get_or_at}
 use Rattle.std.proofs.lemmas.List.Folds.{list_any-append, list_any_at}
 use Rattle.std.proofs.lemmas.List.Sums.{sum_by-cons}
-use Rattle.cla_packed.specs.Fields.{past, EachIs}
+use Rattle.cla_spec.specs.Bytes.{past}
+use Rattle.cla_packed.specs.Fields.{EachIs}
 use Rattle.cla_layout.specs.Groups.{code_of, occurrences_of, first_row_of, AreNumbered}
 use Rattle.cla_layout.specs.GroupLaws.{AreCodesOf}
 use Rattle.cla_packed.specs.Codes.{has, different_behind, different, fits_code}

@@ -3,14 +3,15 @@ use Rattle.std.proofs.Common.{◌≡◌, ℕ, ℤ, pos, zero, suc, ◌+◌, ◌*
 use Rattle.std.specs.Prelude.{nat_lt, nat_le, not, ◌&&◌, ◌||◌, ◌==◌}
 use Rattle.std.specs.List.{flat_map, list_all, range_with_len}
 use Rattle.std.proofs.lemmas.Bool.{ltb-true, leb-true, eqb-true, eq-eqb, and_parts}
+use Rattle.cla_spec.specs.Bytes.{Holds, bytes_of, past}
 use Rattle.cla_packed.specs.declared.fault.FieldName.TheVariants as names
 use Rattle.cla_packed.specs.declared.fault.PackFault.TheVariants.{TooLarge}
 use Rattle.cla_layout.specs.declared.kind.Kind.{Kind}
 use Rattle.cla_layout.specs.declared.kind.Kind.TheVariants as kinds
 use Rattle.cla_layout.specs.Kinds.{kind_number}
-use Rattle.cla_packed.specs.Fields.{past, bytes_of, field_at, refused_at, then_at, list_at, whole_at, EachIs}
+use Rattle.cla_packed.specs.Fields.{field_at, refused_at, then_at, list_at, whole_at, EachIs}
 use Rattle.cla_spec.specs.Numbers.{in_range}
-use Rattle.cla_packed.specs.Values.{Holds, tuple_bytes, tuples_at, IsTuple}
+use Rattle.cla_packed.specs.Values.{tuple_bytes, tuples_at, IsTuple}
 use Rattle.cla_packed.specs.Lists.{next_from}
 use Rattle.cla_packed.specs.Codes.{has}
 use Rattle.cla_packed.specs.Offsets.{offsets_at, offsets_bytes}
@@ -195,10 +196,10 @@ size_parts n h =
     let b : n < 2 ^ 31 = ltb-true n (2 ^ 31) p.1 in
     (omega (arith, a), omega (arith, b))
 
--- what is read is such a layout with these bytes, and its bytes are read as it
-pub file_form : (k bits : ℕ) → Holds k (pos 0) × (in_range bits (pos 0) ≡ true)
-    → IsFileForm (whole_at (file_at k bits)) (IsFile k bits) (file_bytes k)
-file_form k bits zero_fits =
+-- the fields of a file, wherever they stand, are such a layout with these bytes
+pub fields_form : (k bits : ℕ) → Holds k (pos 0) × (in_range bits (pos 0) ≡ true)
+    → IsForm (file_at k bits) (IsFile k bits) (file_bytes k)
+fields_form k bits zero_fits =
     let M = λ (m : ℕ). (m < past 8) × ((m == magic) ≡ true) in
     let S = λ (n : ℕ). (n < past 4) × (fits_size n ≡ true) in
     let few = λ (rows cols : ℕ). nat_le (rows * cols) (2 ^ 26) in
@@ -230,8 +231,7 @@ file_form k bits zero_fits =
     × (F rows y.0 y.1.0 × (N y.0 y.1.1.0 × G rows y.0 y.1.1.0 y.1.1.1))) (λ rows y. bytes_of 4 y.0
     ++ ([] ++ (bytes_of 4 y.1.1.0 ++ flat_map (group_bytes k rows) y.1.1.1)))
     (field_form 4 fits_size 0 names.Rows) (λ rows r. c_form rows r) in
-    whole_form (file_at k bits) (IsFile k bits) (file_bytes k)
-    (as_form (then_at (field_at 8 (λ m. m == magic) 0 names.Magic) (λ m. r_at)) (λ x. M x.0
+    as_form (then_at (field_at 8 (λ m. m == magic) 0 names.Magic) (λ m. r_at)) (λ x. M x.0
     × (S x.1.0 × (S x.1.1.0 × (F x.1.0 x.1.1.0 x.1.1.1.0
     × (N x.1.1.0 x.1.1.1.1.0 × G x.1.0 x.1.1.0 x.1.1.1.1.0 x.1.1.1.1.1)))))
     (λ x. bytes_of 8 x.0 ++ (bytes_of 4 x.1.0
@@ -269,4 +269,10 @@ file_form k bits zero_fits =
         ),
       ),
       refl,
-    )))
+    ))
+
+-- what is read is such a layout with these bytes, and its bytes are read as it
+pub file_form : (k bits : ℕ) → Holds k (pos 0) × (in_range bits (pos 0) ≡ true)
+    → IsFileForm (whole_at (file_at k bits)) (IsFile k bits) (file_bytes k)
+file_form k bits zero_fits =
+    whole_form (file_at k bits) (IsFile k bits) (file_bytes k) (fields_form k bits zero_fits)

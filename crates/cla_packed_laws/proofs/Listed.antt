@@ -6,12 +6,13 @@ use Rattle.std.proofs.lemmas.Bool.{cases_lt, cases_eq, cases_Bool, lt-ltb, le-lt
 use Rattle.std.proofs.lemmas.List.FromFn.{length-map-range_with_len}
 use Rattle.std.proofs.lemmas.List.{length-append, length-map, length-replicate, length-take-le, length-drop, take-append-drop}
 use Rattle.std.proofs.lemmas.List.Sums.{passes_at_first, fails_before_first}
+use Rattle.cla_spec.specs.Bytes.{Holds, bytes_of, past}
 use Rattle.cla_packed.specs.declared.fault.FieldName.TheVariants.{Tuples, Rest, Cover}
-use Rattle.cla_packed.specs.Fields.{Place, Read, past, bytes_of, field_at, checked_at, then_at, list_at, EachIs}
+use Rattle.cla_packed.specs.Fields.{Place, Read, field_at, checked_at, then_at, list_at, EachIs}
 use Rattle.cla_layout.specs.Groups.{code_of, first_row_of}
 use Rattle.cla_spec.specs.Numbers.{in_range}
 use Rattle.cla_layout.specs.Canonical.{AreDistinct}
-use Rattle.cla_packed.specs.Values.{Holds, tuple_bytes, tuples_at, is_among, IsTuple}
+use Rattle.cla_packed.specs.Values.{tuple_bytes, tuples_at, is_among, IsTuple}
 use Rattle.cla_packed.specs.Codes.{has}
 use Rattle.cla_packed.specs.Bodies.{Body, AreCanonical, IsBody}
 use Rattle.cla_packed.specs.Lists.{named, IsList, owner_in, owners_of, rows_from, lists_of, AreOwners}
@@ -56,7 +57,7 @@ not_all f t d a (suc n) h =
     ]
 
 -- some row has no list exactly where not all are named
-unnamed_is : (rows : ℕ) (lists : List (List ℕ)) → has (owners_of rows lists) (length lists)
+pub unnamed_is : (rows : ℕ) (lists : List (List ℕ)) → has (owners_of rows lists) (length lists)
     ≡ not (all_named rows lists)
 unnamed_is rows lists = not_all (owner_in lists) (named lists) (length lists) 0 rows (named_owner lists)
 

@@ -6,8 +6,9 @@ use Rattle.std.proofs.lemmas.Bool.{cases_lt, lt-ltb, le-ltb, ltb-true, leb-true,
 use Rattle.std.proofs.lemmas.List.{length-append, take-append-drop, take_at, drop_at}
 use Rattle.std.proofs.lemmas.Nat.{mod-mul-add, div-add-mod', mod_below}
 use Rattle.std.proofs.Math.Nat.{suc-mul}
+use Rattle.cla_spec.specs.Bytes.{bytes_of, past}
 use Rattle.cla_packed.specs.declared.fault.FieldName.TheVariants.{Count, Offset}
-use Rattle.cla_packed.specs.Fields.{past, bytes_of, field_at, then_at, list_at, EachIs}
+use Rattle.cla_packed.specs.Fields.{field_at, then_at, list_at, EachIs}
 use Rattle.cla_packed.specs.Lists.{next_from, RisingFrom, IsList}
 use Rattle.cla_packed.specs.Offsets.{fits_row, joined, segment_rows, fits_count, fits_offset, row_at, segment_at, segments, offsets_at, parted, segment_bytes, offsets_bytes}
 use Rattle.cla_packed_laws.proofs.Forms.{IsForm, field_form, then_form, list_form, as_form}

@@ -3,10 +3,11 @@ use Rattle.std.proofs.Common.{◌≡◌, ℕ, ℤ, pos, negsuc, suc, ◌-◌, �
 use Rattle.std.specs.Prelude.{nat_lt, ◌||◌}
 use Rattle.std.specs.List.{flat_map}
 use Rattle.std.proofs.lemmas.Bool.{cases_lt, lt-ltb, le-ltb, and_parts, and_from}
+use Rattle.cla_spec.specs.Bytes.{Holds, bytes_of, past, signed_of, unsigned_of, value_bytes}
 use Rattle.cla_packed.specs.declared.fault.FieldName.TheVariants.{Value}
-use Rattle.cla_packed.specs.Fields.{past, bytes_of, field_at, EachIs}
+use Rattle.cla_packed.specs.Fields.{field_at, EachIs}
 use Rattle.cla_spec.specs.Numbers.{in_range}
-use Rattle.cla_packed.specs.Values.{signed_of, unsigned_of, Holds, value_at, value_bytes, tuple_bytes, fits_value, tuple_at, tuples_at, IsTuple}
+use Rattle.cla_packed.specs.Values.{value_at, tuple_bytes, fits_value, tuple_at, tuples_at, IsTuple}
 use Rattle.cla_packed_laws.proofs.Forms.{IsForm, field_form, as_form, list_form}
 use Rattle.cla_packed_laws.proofs.Tests.{form_by, at_last, from_last, each_by}
 

@@ -7,10 +7,10 @@ use Rattle.cla_spec.specs.Numbers.{in_range}
 use Rattle.cla_pack_reader.proofs.values.push_value.Goals as goal
 
 pub returns-in-Ok-push-clause-exact : goal.returns-in-Ok-push-clause-exact
-returns-in-Ok-push-clause-exact g c told test in_test =
+returns-in-Ok-push-clause-exact g c test in_test =
     let value = g.N.Number.value in
     let v = value c.in-Ok.next in
-    let gives = c.in-Ok.ensures.exact told test in_test in
+    let gives = c.in-Ok.ensures.exact test in_test in
     let inside : in_range g.N.Number.BITS v ≡ true =
     lt-ltb (unsigned_abs v) (2 ^ g.N.Number.BITS) (g.met.N.Number.in_range c.in-Ok.next) in (
       v,
@@ -18,5 +18,4 @@ returns-in-Ok-push-clause-exact g c told test in_test =
       inside,
       gives.0,
       gives.1,
-      gives.2,
     )
