@@ -1,0 +1,4 @@
+pub mod Outgoing
+pub mod Writing
+pub mod Listed
+pub mod Groups
