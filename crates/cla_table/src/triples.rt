@@ -15,14 +15,14 @@ use std::alloc::Global;
 use std::marker::Model;
 
 // From this share of the cells on, or this many additions, all cells are kept.
-const CELLS_AN_ADDITION: u32 = 256;
+const CELLS_AN_ADDITION: u32 = 512;
 
-const MOST_ADDITIONS: u32 = 1 << 18;
+const MOST_ADDITIONS: u32 = 1 << 16;
 
 /// The sums of triples (row, column, value), cell by cell. Contracts see the matrix of the sums.
 ///
 /// Few sums are kept by themselves, so a table takes memory by what was added to it: all of its cells
-/// are kept only once the additions are a 256th of them, or 2^18.
+/// are kept only once the additions are a 512th of them, or 2^16.
 #[derive(Drop)]
 pub struct Triples<N: Number> {
     alloc: Global,
