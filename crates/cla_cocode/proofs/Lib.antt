@@ -4,6 +4,7 @@ mod FigureLemmas
 mod CutLemmas
 mod Placed
 mod Finished
+mod Taken
 mod Unions
 mod PartLemmas
 mod Partition

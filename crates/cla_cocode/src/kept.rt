@@ -1,7 +1,8 @@
 //! Groups that are being made.
 
-ghost use Rattle.std.specs.Prelude.{◌≡◌, ◌∷◌, [], ◌<◌, ◌++◌, IfOk, IfErr};
-ghost use Rattle.cla_spec.specs.Matrix.{IsShaped};
+ghost use Rattle.std.specs.Prelude.{◌≡◌, ◌∷◌, [], ◌<◌, ◌++◌, IfOk, OnOk};
+ghost use Rattle.cla_spec.specs.Matrix.{Matrix};
+ghost use Rattle.cla_grouping.specs.Tuples.{tuples_in};
 ghost use Rattle.cla_stats.specs.Coded.{CanJoin};
 ghost use Rattle.cla_cocode.specs.Kept.{IsCounted, IsJoined, IsFit, code_saving};
 ghost use Rattle.cla_cocode.specs.Weighing.{SavingGives};
@@ -9,7 +10,7 @@ ghost use Rattle.cla_cocode.specs.Weighing.{SavingGives};
 use crate::figures::{best_kind, figures};
 use crate::weigh::{count, floor, least_union, with_distinct};
 use cla_grouping::{Figures, KindBytes, best, most_tuples};
-use cla_num::{Dense, Memory, Number};
+use cla_num::Memory;
 use cla_stats::Tuples;
 use std::alloc::Global;
 
@@ -22,14 +23,12 @@ pub struct Kept {
     pub best: KindBytes,
 }
 
-/// A column by itself.
-pub(crate) fn alone<N: Number>(alloc: Global, m: &Dense<N>, column: u32) -> Result<Kept, Memory>
-    requires { column < m.now.cols }
-    ensures counted { IfOk result (IsCounted m.now) }
+/// A column by itself, with these tuples.
+pub(crate) fn alone(alloc: Global, column: u32, tuples: Tuples) -> Result<Kept, Memory>
+    ensures counted { (m : Matrix) → tuples ≡ tuples_in m (column ∷ []) → IfOk result (IsCounted m) }
     ensures columns { IfOk result (λ k. k.columns.items ≡ column ∷ []) }
 {
     let columns = vec![in alloc; column]?;
-    let tuples = Tuples::count(alloc, m, &columns)?;
     let figures = figures(&tuples);
     let best = best_kind(figures);
     Ok(Kept {
@@ -40,27 +39,23 @@ pub(crate) fn alone<N: Number>(alloc: Global, m: &Dense<N>, column: u32) -> Resu
     })
 }
 
-/// A group that has taken in a column.
-pub(crate) fn together(
+/// Takes a column into a group, whose list of columns grows in place.
+pub(crate) fn take_in(
     alloc: Global,
-    group: &Kept,
+    group: &mut Kept,
     single: &Kept,
     column: u32,
-) -> Result<Kept, Memory>
-    requires { CanJoin group.now.tuples single.now.tuples }
-    ensures { IfOk result (IsJoined group.now single.now column) }
+) -> Result<(), Memory>
+    requires { CanJoin group.old.tuples single.now.tuples }
+    ensures { OnOk result (IsJoined group.old single.now column group.new) }
 {
     let tuples = Tuples::join(alloc, &group.tuples, &single.tuples)?;
-    let mut columns = Vec::from_slice(alloc, &group.columns)?;
-    columns.push(column)?;
+    group.columns.push(column)?;
     let figures = figures(&tuples);
-    let best = best_kind(figures);
-    Ok(Kept {
-        columns,
-        tuples,
-        figures,
-        best,
-    })
+    group.best = best_kind(figures);
+    group.figures = figures;
+    group.tuples = tuples;
+    Ok(())
 }
 
 /// The bytes that a group saves by taking in a column, or nothing where they are no more than `least`.

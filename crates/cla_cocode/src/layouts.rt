@@ -1,20 +1,24 @@
 //! The cut of a matrix.
 
-ghost use Rattle.std.specs.Prelude.{◌≡◌, ◌≤◌, ◌<◌, ◌^◌, ◌*◌, ◌+◌, [], ◌∷◌, length, map, All, IfOk, OnOk};
+ghost use Rattle.std.specs.Prelude.{◌≡◌, ◌≤◌, ◌<◌, ◌^◌, ◌*◌, ◌+◌, ◌-◌, [], ◌∷◌, length, map, All, IfOk, OnOk};
 ghost use Rattle.std.specs.List.{range_with_len};
 ghost use Rattle.cla_spec.specs.Matrix.{IsShaped, most_cells};
 ghost use Rattle.cla_grouping.specs.Grouping.{GroupOf, groups_to, grouping_of, with_column};
 ghost use Rattle.cla_grouping.specs.Grouping.{in_best_kind, bytes_in, one_plain, or_plain, most_grouped};
 ghost use Rattle.cla_grouping.specs.Sizes.{plain_bytes};
 ghost use Rattle.cla_cocode.specs.Cuts.{group_seen, cut_seen, AreLeast};
-ghost use Rattle.cla_cocode.specs.Kept.{AreCounted, columns_of, kept_seen};
+ghost use Rattle.cla_cocode.specs.Kept.{IsCounted, AreCounted, columns_of, kept_seen};
 
 use crate::choice::choose;
 use crate::cut::{Cut, LayoutGroup};
-use crate::kept::{Kept, alone, together};
+use crate::kept::{Kept, alone, take_in};
 use cla_layout::Kind;
 use cla_num::{Dense, Memory, Number};
+use cla_stats::Tuples;
 use std::alloc::Global;
+
+// So many columns are counted together: their cells in a row are read at once.
+const COLUMNS_AT_ONCE: u32 = 8;
 
 // More columns than this are not grouped.
 const MOST_GROUPED: u32 = 1 << 16;
@@ -49,11 +53,53 @@ fn kept_groups<N: Number>(alloc: Global, m: &Dense<N>) -> Result<Vec<Kept>, Memo
     ensures counted { IfOk result (λ v. AreCounted m.now m.now.cols v.items) }
     ensures few { IfOk result (λ v. length v.items ≤ m.now.cols) }
 {
+    let cols = m.cols();
     let mut groups = Vec::new(alloc);
-    for column in 0..m.cols() {
-        add_column(alloc, m, column, &mut groups)?;
+    let mut first = 0;
+    while first < cols {
+        let past = past_next(first, cols);
+        add_columns(alloc, m, first, past, &mut groups)?;
+        first = past;
     }
     Ok(groups)
+}
+
+// The columns that are counted next, from `first` on, end before this one.
+fn past_next(first: u32, cols: u32) -> u32
+    requires { first < cols }
+    ensures more { first < result }
+    ensures within { result ≤ cols }
+{
+    if cols - first > COLUMNS_AT_ONCE {
+        first + COLUMNS_AT_ONCE
+    } else {
+        cols
+    }
+}
+
+// Takes in the columns from `first` on and before `past`, which are counted together.
+fn add_columns<N: Number>(
+    alloc: Global,
+    m: &Dense<N>,
+    first: u32,
+    past: u32,
+    groups: &mut Vec<Kept>,
+) -> Result<(), Memory>
+    requires shape { IsShaped m.now.rows m.now.cols m.now.cells }
+    requires order { first ≤ past }
+    requires within { past ≤ m.now.cols }
+    requires counted { AreCounted m.now first groups.old.items }
+    requires columns { columns_of groups.old.items ≡ groups_to m.now first }
+    ensures counted { OnOk result (AreCounted m.now past groups.new.items) }
+    ensures columns { OnOk result (columns_of groups.new.items ≡ groups_to m.now past) }
+    ensures few { OnOk result (length groups.new.items ≤ length groups.old.items + (past - first)) }
+{
+    let mut column = first;
+    for tuples in Tuples::count_each(alloc, m, first, past)? {
+        add_column(alloc, m, column, alone(alloc, column, tuples)?, groups)?;
+        column += 1;
+    }
+    Ok(())
 }
 
 // Takes in the next column: it joins the group that saves most by it, or stands alone.
@@ -61,21 +107,22 @@ fn add_column<N: Number>(
     alloc: Global,
     m: &Dense<N>,
     column: u32,
+    single: Kept,
     groups: &mut Vec<Kept>,
 ) -> Result<(), Memory>
     requires shape { IsShaped m.now.rows m.now.cols m.now.cells }
     requires within { column < m.now.cols }
+    requires single { IsCounted m.now single }
+    requires alone { single.columns.items ≡ column ∷ [] }
     requires counted { AreCounted m.now column groups.old.items }
     ensures counted { OnOk result (AreCounted m.now (column + 1) groups.new.items) }
     ensures columns { OnOk result
         (columns_of groups.new.items ≡ with_column m.now (columns_of groups.old.items) column) }
     ensures few { OnOk result (length groups.new.items ≤ length groups.old.items + 1) }
 {
-    let single = alone(alloc, m, column)?;
     let best = choose(alloc, groups, &single)?;
     if best.saving > 0 {
-        let joined = together(alloc, &groups[best.place], &single, column)?;
-        groups[best.place] = joined;
+        take_in(alloc, &mut groups[best.place], &single, column)?;
     } else {
         groups.push(single)?;
     }

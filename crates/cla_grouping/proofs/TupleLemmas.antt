@@ -58,7 +58,7 @@ zeros-same m (c ∷ cs) x y h g =
     ∙ zeros-same m cs x y (and_right (int_eq (entry m x c) (pos 0)) _ h) (and_right (int_eq (entry m y c) (pos 0)) _ g)
 
 -- there is a code for each row
-length-codes_from : {A : Type 0} (eq : A → A → Bool) (seen xs : List A) → length (codes_from eq seen xs) ≡ length xs
+pub length-codes_from : {A : Type 0} (eq : A → A → Bool) (seen xs : List A) → length (codes_from eq seen xs) ≡ length xs
 length-codes_from eq seen [] = refl
 length-codes_from eq seen (x ∷ xs) = ap suc (length-codes_from eq (with_item eq seen x) xs)
 

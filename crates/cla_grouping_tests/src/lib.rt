@@ -6,4 +6,8 @@ mod cut_tests;
 #[cfg(test)]
 mod made;
 #[cfg(test)]
+mod rule_tests;
+#[cfg(test)]
+mod size_tests;
+#[cfg(test)]
 mod tuple_tests;

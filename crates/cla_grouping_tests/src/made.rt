@@ -1,7 +1,9 @@
-//! Matrices whose shape is tested when the tests run.
+//! Matrices whose shape is tested when the tests run, and what is seen of their cuts.
 
 ghost use Rattle.std.specs.Prelude.{◌≡◌, ◌<◌, ◌^◌, length, IfOk};
 
+use cla_cocode::Cut;
+use cla_layout::Kind;
 use cla_num::{Dense, Int, Number};
 use std::alloc::Global;
 use std::test::Fail;
@@ -25,4 +27,15 @@ pub(crate) fn matrix(alloc: Global, rows: u32, cols: u32, of: &[i64]) -> Result<
         return Err(Fail::new("a matrix of another shape"));
     }
     Ok(Dense::new(rows, cols, cells))
+}
+
+/// Of a cut, how many groups it has, and of the first its kind, its last column, how many columns, and its bytes.
+pub(crate) type Seen = (usize, Kind, u32, usize, u64);
+
+/// What is seen of a cut that has groups.
+pub(crate) fn seen(cut: &Cut) -> Option<Seen> {
+    let group = cut.groups.first()?;
+    let last = group.columns.last()?;
+    let groups = cut.groups.len();
+    Some((groups, group.kind, *last, group.columns.len(), group.bytes))
 }

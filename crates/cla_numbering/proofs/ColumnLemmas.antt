@@ -17,14 +17,14 @@ position-tests : {A : Type 0} (p q : A → Bool) → ((x : A) → p x ≡ q x) �
 position-tests p q h [] = refl
 position-tests p q h (x ∷ xs) = ap (λ b. cond (not b) (1 + position_or_len p xs) 0) (h x) ∙ ap (λ n. cond (not (q x)) (1 + n) 0) (position-tests p q h xs)
 
-codes_from-tests : {A : Type 0} (e f : A → A → Bool) → ((x y : A) → e x y ≡ f x y) → (seen xs : List A) → codes_from e seen xs ≡ codes_from f seen xs
+pub codes_from-tests : {A : Type 0} (e f : A → A → Bool) → ((x y : A) → e x y ≡ f x y) → (seen xs : List A) → codes_from e seen xs ≡ codes_from f seen xs
 codes_from-tests e f h seen [] = refl
 codes_from-tests e f h seen (x ∷ xs) =
     ap (λ m. m ∷ codes_from e (with_item e seen x) xs) (position-tests (e x) (f x) (h x) seen)
     ∙ ap (λ b. position_or_len (f x) seen ∷ codes_from e (cond b seen (seen ++ x ∷ [])) xs) (any-tests (e x) (f x) (h x) seen)
     ∙ ap (λ t. position_or_len (f x) seen ∷ t) (codes_from-tests e f h (with_item f seen x) xs)
 
-firsts_from-tests : {A : Type 0} (e f : A → A → Bool) → ((x y : A) → e x y ≡ f x y) → (seen xs : List A) → firsts_from e seen xs ≡ firsts_from f seen xs
+pub firsts_from-tests : {A : Type 0} (e f : A → A → Bool) → ((x y : A) → e x y ≡ f x y) → (seen xs : List A) → firsts_from e seen xs ≡ firsts_from f seen xs
 firsts_from-tests e f h seen [] = refl
 firsts_from-tests e f h seen (x ∷ xs) =
     ap (λ b. firsts_from e (cond b seen (seen ++ x ∷ [])) xs) (any-tests (e x) (f x) (h x) seen)

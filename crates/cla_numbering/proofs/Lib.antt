@@ -1,3 +1,5 @@
 pub mod TableLemmas
 pub mod ColumnLemmas
 pub mod MapLemmas
+pub mod GatherLemmas
+pub mod PlaceLemmas

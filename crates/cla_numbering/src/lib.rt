@@ -3,12 +3,16 @@
 #![tactic(auto)]
 
 mod column;
+mod entries;
+mod gather;
 mod map;
 mod numbered;
 mod pairs;
 mod table;
 
-pub use column::number_column;
-pub use numbered::Numbered;
+pub use column::entries_of;
+pub use entries::number_entries;
+pub use gather::gathered;
+pub use numbered::{NO_NUMBER, Numbered, PLACES_A_ROW};
 pub use pairs::number_pairs;
 pub use table::number_place;

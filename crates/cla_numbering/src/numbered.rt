@@ -6,3 +6,9 @@ pub struct Numbered {
     pub codes: Vec<u32>,
     pub distinct: u32,
 }
+
+/// A place of a table that has no number yet.
+pub const NO_NUMBER: u32 = u32::MAX;
+
+/// A table has at most this many places for each row.
+pub const PLACES_A_ROW: u64 = 4;

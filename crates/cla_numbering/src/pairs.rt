@@ -6,13 +6,10 @@ ghost use Rattle.cla_grouping.specs.Numbering.{same_pair};
 ghost use Rattle.cla_numbering.specs.Tables.{AreNumberedBy, AreBelow};
 
 use crate::map::number_by_map;
-use crate::numbered::Numbered;
+use crate::numbered::{Numbered, PLACES_A_ROW};
 use crate::table::number_by_table;
 use cla_num::Memory;
 use std::alloc::Global;
-
-// A table has at most this many places for each row.
-const PLACES_A_ROW: u64 = 4;
 
 /// The codes of the pairs of two lists of codes, which are below `tall` and `wide`. A table with a place
 /// for each pair numbers them where it has at most four places a row, and a map where it would have more.

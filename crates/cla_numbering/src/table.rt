@@ -5,12 +5,9 @@ ghost use Rattle.cla_spec.specs.Matrix.{most_cells};
 ghost use Rattle.cla_grouping.specs.Numbering.{same_pair};
 ghost use Rattle.cla_numbering.specs.Tables.{AreNumberedBy, AreBelow, number_put, table_put, next_put};
 
-use crate::numbered::Numbered;
+use crate::numbered::{NO_NUMBER, Numbered};
 use cla_num::Memory;
 use std::alloc::Global;
-
-// A place that has no number yet.
-const NO_NUMBER: u32 = u32::MAX;
 
 /// The codes of the pairs, through a table with a place for each of the `tall * wide` pairs.
 pub(crate) fn number_by_table(

@@ -1,3 +1,4 @@
 mod Tallies
 mod Firsts
 mod Made
+mod Columns

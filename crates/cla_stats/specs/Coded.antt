@@ -1,14 +1,29 @@
 -- The tuples of columns, as they are kept.
-use Rattle.std.specs.Prelude.{◌≡◌, ℕ, ◌+◌, ◌*◌, ◌<◌, ◌≤◌, List, length, Bool, ◌==◌}
-use Rattle.cla_spec.specs.Matrix.{most_cells}
+use Rattle.std.specs.Prelude.{◌≡◌, ℕ, ℤ, pos, ◌+◌, ◌*◌, ◌<◌, ◌≤◌, List, [], ◌∷◌, length, map, slice_index_or, Bool, ◌==◌}
+use Rattle.std.specs.List.{range_with_len}
+use Rattle.std.specs.Ordering.{int_eq}
+use Rattle.cla_spec.specs.Matrix.{Matrix, most_cells}
 use Rattle.cla_layout.specs.Groups.{code_of}
 use Rattle.cla_layout.specs.Listed.{rows_where, begins_run, run_begins}
-use Rattle.cla_grouping.specs.Tuples.{TuplesOf}
+use Rattle.cla_grouping.specs.Tuples.{TuplesOf, tuples_in}
+use Rattle.cla_numbering.specs.Columns.{column_of}
 use Rattle.cla_stats.specs.declared.coded.Coded.{Coded}
 
 -- the tuples, as contracts see them
 abbrev pub tuples_seen : Coded → TuplesOf
 tuples_seen c = record { width = c.width; distinct = c.distinct; codes = c.codes.items; zero = c.zero }
+
+-- these are the tuples of any column with these entries
+abbrev pub AreTuplesOf : List ℤ → TuplesOf → Type 0
+AreTuplesOf values t = (m : Matrix) (c : ℕ) → values ≡ column_of m c → t ≡ tuples_in m (c ∷ [])
+
+-- whether value i is 0
+abbrev pub is_zero_at : List ℤ → ℕ → Bool
+is_zero_at values i = int_eq (slice_index_or values i (pos 0)) (pos 0)
+
+-- the tuples of each of n columns by itself, from the first on
+abbrev pub tuples_of_each : Matrix → ℕ → ℕ → List TuplesOf
+tuples_of_each m first n = map (λ c. tuples_in m (c ∷ [])) (range_with_len first n)
 
 -- how many maximal runs of rows have code k
 abbrev pub runs_of : List ℕ → ℕ → ℕ

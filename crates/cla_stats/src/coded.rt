@@ -5,11 +5,11 @@ ghost use Rattle.std.specs.Ordering.{int_eq};
 ghost use Rattle.cla_spec.specs.Matrix.{IsShaped, most_cells};
 ghost use Rattle.cla_layout.specs.Groups.{code_of};
 ghost use Rattle.cla_layout.specs.Listed.{is_rest};
-ghost use Rattle.cla_grouping.specs.Tuples.{AreColumns, AreTuples, code_where, is_zero_row, tuples_in, joined};
-ghost use Rattle.cla_stats.specs.Coded.{tuples_seen, CanJoin};
+ghost use Rattle.cla_grouping.specs.Tuples.{AreColumns, AreTuples, code_where, tuples_in, joined};
+ghost use Rattle.cla_stats.specs.Coded.{tuples_seen, AreTuplesOf, is_zero_at, CanJoin};
 
 use cla_num::{Dense, Memory, Number, Wide};
-use cla_numbering::{Numbered, number_column, number_pairs};
+use cla_numbering::{Numbered, entries_of, number_entries, number_pairs};
 use std::alloc::Global;
 
 /// Columns, how many distinct tuples they have, the code of each row's tuple, and the code of the tuple
@@ -46,8 +46,20 @@ pub fn code_column<N: Number>(alloc: Global, m: &Dense<N>, column: u32) -> Resul
     ensures tuples { IfOk result (λ c. tuples_seen c ≡ tuples_in m.now (column ∷ [])) }
     ensures shape { IfOk result (λ _. IsShaped m.now.rows m.now.cols m.now.cells) }
 {
-    let Numbered { codes, distinct } = number_column(alloc, m, column)?;
-    let zero = first_zero(m.cells(), m.cols(), column, &codes);
+    // The cells tell that there are few rows.
+    let _ = m.cells();
+    let items = entries_of(alloc, m, column)?;
+    let coded = code_entries(alloc, &items)?;
+    Ok(coded)
+}
+
+/// The tuples of a column with these entries.
+pub fn code_entries<N: Number>(alloc: Global, items: &[N]) -> Result<Coded, Memory>
+    requires few { length items.now ≤ most_cells }
+    ensures { IfOk result (λ c. AreTuplesOf (map N.value items.now) (tuples_seen c)) }
+{
+    let Numbered { codes, distinct } = number_entries(alloc, items)?;
+    let zero = first_zero(items, &codes);
     Ok(Coded {
         width: 1,
         distinct,
@@ -56,16 +68,13 @@ pub fn code_column<N: Number>(alloc: Global, m: &Dense<N>, column: u32) -> Resul
     })
 }
 
-// The code of the first row with a zero in this column, if there is one.
-fn first_zero<N: Number>(cells: &[N], cols: u32, column: u32, codes: &[u32]) -> Option<u32>
-    requires cells { length cells.now ≡ length codes.now * cols }
-    requires column { column < cols }
-    ensures { result ≡ code_where
-        (is_zero_row (record { rows = length codes.now; cols = cols; cells = map N.value cells.now }) (column ∷ []))
-        codes.now }
+// The code of the first zero of these entries, if there is one.
+fn first_zero<N: Number>(items: &[N], codes: &[u32]) -> Option<u32>
+    requires { length items.now ≡ length codes.now }
+    ensures { result ≡ code_where (is_zero_at (map N.value items.now)) codes.now }
 {
     for i in 0..codes.len() {
-        if is_zero(&cells[i * cols as usize + column as usize]) {
+        if is_zero(&items[i]) {
             return Some(codes[i]);
         }
     }
