@@ -1,5 +1,6 @@
 """Runs programs, and tells their times and their peak memory."""
 import os
+import re
 import shutil
 import subprocess
 import sys
@@ -65,3 +66,20 @@ def compile_cpp(name, room, flags):
     program = Path(room) / name
     subprocess.run(["g++", "-std=c++17", *flags, "-Wall", "-o", program, HERE / f"{name}.cpp"], check=True)
     return program
+
+
+def best_calls(programs, words, turns=ROUNDS):
+    """Runs programs that measure calls in turn, each so often with these words. Returns for each program and call the nanoseconds
+    of the best round. What they print, check sums, has to be the same."""
+    best, texts = {}, set()
+    for _ in range(turns):
+        for name, program in programs.items():
+            ended = subprocess.run([program, *map(str, words)], stdin=subprocess.DEVNULL, capture_output=True, text=True)
+            if ended.returncode:
+                sys.exit(f"{sys.argv[0]}: {program} ended with status {ended.returncode}\n{ended.stderr}")
+            texts.add(ended.stdout)
+            for call, nanoseconds, _ in re.findall(r"^(\w+) (\d+) ([\d.]+)$", ended.stderr, re.M):
+                best[name, call] = min(best.get((name, call), float("inf")), int(nanoseconds))
+    if len(texts) != 1:
+        sys.exit(f"{sys.argv[0]}: the check sums of {words} differ:\n" + "\n".join(sorted(texts)))
+    return best

@@ -1,5 +1,6 @@
 -- The first of values, of tuples and of parts, in an order.
-use Rattle.std.proofs.Common.{◌≡◌, ◌⊎◌, ℕ, ℤ, ◌+◌, ◌<◌, Bool, true, false, List, length, ap, subst, sym, ◌∙◌, arith, inl, inr}
+use Rattle.std.proofs.Common.{◌≡◌, ◌⊎◌, ℕ, ℤ, ◌+◌, ◌<◌, Bool, true, false, List, length, ap, subst, sym, ◌∙◌, arith}
+use Rattle.std.proofs.Common.{inl, inr}
 use Rattle.std.proofs.lemmas.Bool.{cases_eq}
 use Rattle.cla_layout.specs.Groups.{value_of, IsGroup}
 use Rattle.cla_layout.specs.GroupLaws.{IsExtreme}

@@ -1,5 +1,6 @@
 -- What is made of each column of the parts, at the column's place.
-use Rattle.std.proofs.Common.{◌≡◌, ℕ, ℤ, pos, true, false, ◌+◌, ◌*◌, ◌^◌, ◌<◌, ◌≤◌, ◌*ℤ◌, List, length, set, ap, subst, sym, ◌∙◌, arith, inl, inr}
+use Rattle.std.proofs.Common.{◌≡◌, ℕ, ℤ, pos, true, false, ◌+◌, ◌*◌, ◌^◌, ◌<◌, ◌≤◌, ◌*ℤ◌, List, length, set, ap, subst}
+use Rattle.std.proofs.Common.{sym, ◌∙◌, arith, inl, inr}
 use Rattle.std.proofs.Math.IntN.{*ℤ_comm}
 use Rattle.std.proofs.lemmas.Bool.{cases_Bool, cases_eq, cases_lt, ltb-true}
 use Rattle.std.proofs.lemmas.List.{get_or-set_same, get_or-set_other}
@@ -127,7 +128,8 @@ parts_placed Of respects bits layout n old now next whole there placed before = 
     | inr other ↦ (let earlier : q < n = grind (arith, lt, other) in
         elim (cases_Bool (has_column (part_at layout.parts n) j)) [
           | inl also ↦ absurd
-              (other (only_part layout.cols layout.parts q n j whole.partition (omega (arith, earlier, there)) there col has
+              (other (only_part layout.cols layout.parts q n j whole.partition (omega (arith, earlier, there)) there col
+              has
               also))
           | inr none ↦ subst (Of (λ i. entry_in layout.parts i j) layout.rows) (sym (placed.kept j none))
               (before.made q j earlier col has)

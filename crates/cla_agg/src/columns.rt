@@ -50,7 +50,8 @@ fn add_part<N: Number, G: Group<N>>(part: &Part<G>, into: &mut [Wide], meter: &m
     requires zeros { let columns = part.now.columns.items in
         (c : ℕ) → c < length columns → at into.old (column_at columns c) ≡ pos 0 }
     ensures sums { ArePlaced IsSumOf (part_of G.codes G.dictionary part.now) into.old into.new }
-    ensures counts { HasMults (length (G.dictionary part.now.group) * length part.now.columns.items) meter.old meter.new }
+    ensures counts { let values = length (G.dictionary part.now.group) * length part.now.columns.items in
+        HasMults values meter.old meter.new }
 {
     for k in 0..part.group.tuples() {
         add_tuple(part, k, into, meter);

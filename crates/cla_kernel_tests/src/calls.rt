@@ -1,11 +1,15 @@
 //! The calls on tables, each with counts of its own, and what they answer.
 
 ghost use Rattle.std.specs.Prelude.{◌≡◌};
+ghost use Rattle.cla_num.specs.Counts.{AreBelow, kernel_bound};
 
-use crate::slow::{Outcome, SlowStep};
-use cla_agg::{col_sums, row_sums, sum};
+use crate::slow::{Call, Fold, Lines, Outcome, SlowStep};
+use cla_agg::{
+    col_greatest, col_least, col_sums, greatest, least, row_greatest, row_least, row_sums, sum,
+};
 use cla_checked_tables::{Entry, numbers};
-use cla_coded::Coded;
+use cla_coded::{Coded, Table};
+use cla_group::Group;
 use cla_map::{Step, broadcast_row, map_chain};
 use cla_num::{CellOp, Dense, Meter, Number, Refused};
 use std::alloc::Global;
@@ -20,12 +24,27 @@ fn place_of(refused: Refused) -> Result<Outcome, Fail> {
     }
 }
 
+fn cells_of(m: Dense<Entry>) -> Outcome {
+    Outcome::Cells(m.rows(), m.cols(), Vec::from(m))
+}
+
 // What an answer is.
-fn outcome(alloc: Global, answer: Result<Coded<Entry>, Refused>) -> Result<Outcome, Fail> {
+fn of_table(alloc: Global, answer: Result<Coded<Entry>, Refused>) -> Result<Outcome, Fail> {
     match answer {
-        Ok(table) => Ok(Outcome::Cells(Vec::from(table.to_dense(alloc)?))),
+        Ok(table) => Ok(cells_of(table.to_dense(alloc)?)),
         Err(refused) => place_of(refused),
     }
+}
+
+fn of_sums(answer: Result<Dense<Entry>, Refused>) -> Result<Outcome, Fail> {
+    match answer {
+        Ok(m) => Ok(cells_of(m)),
+        Err(refused) => place_of(refused),
+    }
+}
+
+fn of_number(alloc: Global, number: Entry) -> Result<Outcome, Fail> {
+    Ok(Outcome::Cells(1, 1, Vec::from_elem(alloc, number, 1)?))
 }
 
 // The step with a number.
@@ -44,12 +63,7 @@ fn step_of(step: SlowStep) -> Result<Step<Entry>, Fail> {
     }
 }
 
-/// What comes of the chain of these steps.
-pub(crate) fn chain_of(
-    alloc: Global,
-    table: &Coded<Entry>,
-    steps: &[SlowStep],
-) -> Result<Outcome, Fail> {
+fn chain(alloc: Global, table: &Coded<Entry>, steps: &[SlowStep]) -> Result<Outcome, Fail> {
     let mut made = Vec::new(alloc);
     for step in steps {
         made.push(step_of(*step)?)?;
@@ -57,53 +71,107 @@ pub(crate) fn chain_of(
     if made.len() > 8 {
         return Err(Fail::new("too many steps"));
     }
-    let answer = map_chain(alloc, table, &made, &mut Meter::new());
-    outcome(alloc, answer)
+    of_table(alloc, map_chain(alloc, table, &made, &mut Meter::new()))
 }
 
-/// What comes of an operator with a row.
-pub(crate) fn row_of(
-    alloc: Global,
-    table: &Coded<Entry>,
-    op: CellOp,
-    row: &[i64],
-) -> Result<Outcome, Fail> {
+fn with_row(alloc: Global, table: &Coded<Entry>, op: CellOp, row: &[i64]) -> Result<Outcome, Fail> {
     let row = numbers(alloc, row)?;
     if table.flipped() || row.len() != table.cols() as usize {
         return Err(Fail::new("no row for the table"));
     }
     let answer = broadcast_row(alloc, table, op, &row, &mut Meter::new());
-    outcome(alloc, answer)
+    of_table(alloc, answer)
 }
 
-/// The sum.
-pub(crate) fn sum_of(table: &Coded<Entry>) -> Result<Entry, Fail> {
-    match sum(table, &mut Meter::new()) {
-        Ok(total) => Ok(total),
-        Err(_fault) => Err(Fail::new("no sum")),
+fn sums<G: Group<Entry>>(
+    alloc: Global,
+    table: &Table<Entry, G>,
+    lines: Lines,
+    meter: &mut Meter,
+) -> Result<Outcome, Fail>
+    requires room { AreBelow kernel_bound meter.old }
+{
+    match lines {
+        Lines::All => match sum(table, meter) {
+            Ok(total) => of_number(alloc, total),
+            Err(fault) => place_of(Refused::Op(fault)),
+        },
+        Lines::Rows => of_sums(row_sums(alloc, table, meter)),
+        Lines::Columns => of_sums(col_sums(alloc, table, meter)),
     }
 }
 
-/// The sums of the rows.
-pub(crate) fn row_sums_of(alloc: Global, table: &Coded<Entry>) -> Result<Dense<Entry>, Fail> {
-    Ok(row_sums(alloc, table, &mut Meter::new())?)
-}
-
-/// The sums of the columns.
-pub(crate) fn col_sums_of(alloc: Global, table: &Coded<Entry>) -> Result<Dense<Entry>, Fail> {
-    Ok(col_sums(alloc, table, &mut Meter::new())?)
-}
-
-/// Both are the same cells, or the same fault.
-pub(crate) fn same(rt: &impl Abort, answer: &Outcome, expected: &Outcome) {
-    match answer {
-        Outcome::Cells(cells) => match expected {
-            Outcome::Cells(others) => assert!(rt; cells.as_slice() == others.as_slice()),
-            Outcome::Fault(_, _, _) => assert!(rt; false, "a fault was expected"),
-        },
-        Outcome::Fault(op, row, col) => match expected {
-            Outcome::Cells(_) => assert!(rt; false, "cells were expected"),
-            Outcome::Fault(step, i, j) => assert_eq!(rt; (*op, *row, *col), (*step, *i, *j)),
-        },
+fn lows<G: Group<Entry>>(
+    alloc: Global,
+    table: &Table<Entry, G>,
+    lines: Lines,
+) -> Result<Outcome, Fail> {
+    match lines {
+        Lines::All => of_number(alloc, least(table)),
+        Lines::Rows => Ok(cells_of(row_least(alloc, table)?)),
+        Lines::Columns => Ok(cells_of(col_least(alloc, table)?)),
     }
+}
+
+fn highs<G: Group<Entry>>(
+    alloc: Global,
+    table: &Table<Entry, G>,
+    lines: Lines,
+) -> Result<Outcome, Fail> {
+    match lines {
+        Lines::All => of_number(alloc, greatest(table)),
+        Lines::Rows => Ok(cells_of(row_greatest(alloc, table)?)),
+        Lines::Columns => Ok(cells_of(col_greatest(alloc, table)?)),
+    }
+}
+
+/// What a sum or an extreme of these lines of the table is.
+pub(crate) fn aggregate<G: Group<Entry>>(
+    alloc: Global,
+    table: &Table<Entry, G>,
+    fold: Fold,
+    lines: Lines,
+    meter: &mut Meter,
+) -> Result<Outcome, Fail>
+    requires room { AreBelow kernel_bound meter.old }
+{
+    match fold {
+        Fold::Sum => sums(alloc, table, lines, meter),
+        Fold::Least => lows(alloc, table, lines),
+        Fold::Greatest => highs(alloc, table, lines),
+    }
+}
+
+// What a call on this table answers.
+fn answered(alloc: Global, table: &Coded<Entry>, call: Call) -> Result<Outcome, Fail> {
+    match call {
+        Call::Chain(steps) => chain(alloc, table, steps),
+        Call::Row(op, row) => with_row(alloc, table, op, row),
+        Call::Of(fold, lines) => aggregate(alloc, table, fold, lines, &mut Meter::new()),
+    }
+}
+
+/// The call on this table answers this.
+pub(crate) fn answers(
+    rt: &impl Abort,
+    alloc: Global,
+    table: &Coded<Entry>,
+    call: Call,
+    expected: &Outcome,
+) -> Result<(), Fail> {
+    let answer = answered(alloc, table, call)?;
+    assert!(rt; answer.is(expected), "another answer was expected");
+    Ok(())
+}
+
+/// The call on this table answers a matrix of so many rows and these cells.
+pub(crate) fn gives(
+    rt: &impl Abort,
+    alloc: Global,
+    table: &Coded<Entry>,
+    call: Call,
+    rows: u32,
+    cells: &[i64],
+) -> Result<(), Fail> {
+    answers(rt, alloc, table, call, &Outcome::of(alloc, rows, cells)?)
 }

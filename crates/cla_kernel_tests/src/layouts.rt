@@ -49,40 +49,50 @@ fn every(alloc: Global, first: u32, step: u32, cols: u32) -> Result<Vec<u32>, Fa
     Ok(columns)
 }
 
-// The part of these columns, whose tuples are numbered by the first rows that have them.
+// The first row that has the cells of row i in these columns.
+fn first_alike(cells: &Cells, columns: &[u32], i: u32) -> Result<u32, Fail> {
+    for r in 0..i {
+        if cells.are_alike(r, i, columns)? {
+            return Ok(r);
+        }
+    }
+    Ok(i)
+}
+
+// The code of each row. Tuples are numbered by the first rows that have them, which `firsts` gets.
+fn numbered(
+    alloc: Global,
+    cells: &Cells,
+    columns: &[u32],
+    firsts: &mut Vec<u32>,
+) -> Result<Vec<u32>, Fail> {
+    let mut codes = Vec::new(alloc);
+    for i in 0..cells.rows {
+        let r = first_alike(cells, columns, i)?;
+        if r < i {
+            let code = *codes.get(r as usize).ok_or("a code")?;
+            codes.push(code)?;
+        } else {
+            codes.push(u32::try_from(firsts.len())?)?;
+            firsts.push(i)?;
+        }
+    }
+    Ok(codes)
+}
+
+// The part of these columns.
 fn part_of(
     alloc: Global,
     cells: &Cells,
     columns: Vec<u32>,
     kind: Kind,
 ) -> Result<Part<AnyGroup<Entry>>, Fail> {
-    let mut tuples: Vec<Vec<i64>> = Vec::new(alloc);
-    let mut codes = Vec::new(alloc);
-    let mut values = Vec::new(alloc);
-    for i in 0..cells.rows {
-        let tuple = cells.in_row(alloc, i, &columns)?;
-        match place_of(&tuples, &tuple) {
-            Some(k) => codes.push(u32::try_from(k)?)?,
-            None => {
-                codes.push(u32::try_from(tuples.len())?)?;
-                values.extend_from_slice(&tuple)?;
-                tuples.push(tuple)?;
-            }
-        }
-    }
+    let mut firsts = Vec::new(alloc);
+    let codes = numbered(alloc, cells, &columns, &mut firsts)?;
+    let values = cells.in_rows(alloc, &firsts, &columns)?;
     let width = u32::try_from(columns.len())?;
     let group = group_of(alloc, kind, width, &codes, &values)?;
     Ok(Part { columns, group })
-}
-
-// Where a tuple stands among others.
-fn place_of(tuples: &[Vec<i64>], tuple: &[i64]) -> Option<usize> {
-    for (k, known) in tuples.iter().enumerate() {
-        if known.as_slice() == tuple {
-            return Some(k);
-        }
-    }
-    None
 }
 
 /// The parts of these cells, of groups whose kinds take turns from this one on.

@@ -17,10 +17,11 @@ pub(crate) struct Cells {
 }
 
 impl Cells {
-    /// The cells of this shape.
-    pub(crate) fn of(alloc: Global, rows: u32, cols: u32, cells: &[i64]) -> Result<Cells, Fail> {
+    /// The cells of so many columns.
+    pub(crate) fn of(alloc: Global, cols: u32, cells: &[i64]) -> Result<Cells, Fail> {
+        let count = u32::try_from(cells.len())?;
         Ok(Cells {
-            rows,
+            rows: count.checked_div(cols).ok_or("a column")?,
             cols,
             cells: Vec::from_slice(alloc, cells)?,
         })
@@ -43,13 +44,30 @@ impl Cells {
         Ok(*self.cells.get(place).ok_or("a cell")?)
     }
 
-    /// The cells of row i in these columns.
-    pub(crate) fn in_row(&self, alloc: Global, i: u32, columns: &[u32]) -> Result<Vec<i64>, Fail> {
+    /// The cells of these rows in these columns, row by row.
+    pub(crate) fn in_rows(
+        &self,
+        alloc: Global,
+        rows: &[u32],
+        columns: &[u32],
+    ) -> Result<Vec<i64>, Fail> {
         let mut items = Vec::new(alloc);
-        for j in columns {
-            items.push(self.at(i, *j)?)?;
+        for i in rows {
+            for j in columns {
+                items.push(self.at(*i, *j)?)?;
+            }
         }
         Ok(items)
+    }
+
+    /// Two rows have the same cells in these columns.
+    pub(crate) fn are_alike(&self, i: u32, r: u32, columns: &[u32]) -> Result<bool, Fail> {
+        for j in columns {
+            if self.at(i, *j)? != self.at(r, *j)? {
+                return Ok(false);
+            }
+        }
+        Ok(true)
     }
 
     /// The transpose.
@@ -67,13 +85,28 @@ impl Cells {
         })
     }
 
-    /// What `fold` makes of each row, from its first cell on.
-    pub(crate) fn by_row(&self, alloc: Global, fold: Fold) -> Result<Vec<Entry>, Fail> {
+    // What `fold` makes of each row, from its first cell on.
+    fn by_row(&self, alloc: Global, fold: Fold) -> Result<Vec<Entry>, Fail> {
         let mut made = Vec::new(alloc);
         for i in 0..self.rows {
             made.push(self.folded(i, fold)?)?;
         }
         numbers(alloc, &made)
+    }
+
+    // What `fold` makes of each of these lines.
+    fn by_line(&self, alloc: Global, fold: Fold, lines: Lines) -> Result<Outcome, Fail> {
+        match lines {
+            Lines::All => {
+                let flat = Cells::of(alloc, u32::try_from(self.cells.len())?, &self.cells)?;
+                Ok(Outcome::Cells(1, 1, flat.by_row(alloc, fold)?))
+            }
+            Lines::Rows => Ok(Outcome::Cells(self.rows, 1, self.by_row(alloc, fold)?)),
+            Lines::Columns => {
+                let turned = self.turned(alloc)?;
+                Ok(Outcome::Cells(1, self.cols, turned.by_row(alloc, fold)?))
+            }
+        }
     }
 
     // What `fold` makes of row i.
@@ -104,14 +137,61 @@ impl Fold {
     }
 }
 
+/// The lines of which a number each is made.
+#[derive(Clone, Copy)]
+pub(crate) enum Lines {
+    All,
+    Rows,
+    Columns,
+}
+
+/// A call on a table, and what it is given.
+#[derive(Clone, Copy)]
+pub(crate) enum Call<'a> {
+    Of(Fold, Lines),
+    Chain(&'a [SlowStep]),
+    Row(CellOp, &'a [i64]),
+}
+
 /// What a call answers.
 #[derive(Drop)]
 pub(crate) enum Outcome {
-    /// A matrix of these cells.
-    Cells(Vec<Entry>),
+    /// A matrix of these rows, columns and cells.
+    Cells(u32, u32, Vec<Entry>),
 
     /// A fault at this step, from 0, and this row and column, from 1.
     Fault(u32, u32, u32),
+}
+
+impl Outcome {
+    /// A matrix of so many rows and these cells.
+    pub(crate) fn of(alloc: Global, rows: u32, cells: &[i64]) -> Result<Outcome, Fail> {
+        let count = u32::try_from(cells.len())?;
+        let cols = count.checked_div(rows).ok_or("a row")?;
+        Ok(Outcome::Cells(rows, cols, numbers(alloc, cells)?))
+    }
+
+    /// Both are the same cells, or the same fault.
+    pub(crate) fn is(&self, other: &Outcome) -> bool {
+        match (self, other) {
+            (Outcome::Cells(rows, cols, cells), Outcome::Cells(height, width, others)) => {
+                (*rows, *cols) == (*height, *width) && cells.as_slice() == others.as_slice()
+            }
+            (Outcome::Fault(op, row, col), Outcome::Fault(step, i, j)) => {
+                (*op, *row, *col) == (*step, *i, *j)
+            }
+            _ => false,
+        }
+    }
+}
+
+/// What a call on these cells has to answer.
+pub(crate) fn expected(alloc: Global, cells: &Cells, call: Call) -> Result<Outcome, Fail> {
+    match call {
+        Call::Of(fold, lines) => cells.by_line(alloc, fold, lines),
+        Call::Chain(steps) => chained(alloc, cells, steps),
+        Call::Row(op, row) => with_row(alloc, cells, op, row),
+    }
 }
 
 /// A step of a chain.
@@ -135,8 +215,8 @@ impl SlowStep {
     }
 }
 
-/// All steps on all cells, one step after the other.
-pub(crate) fn chained(alloc: Global, cells: &Cells, steps: &[SlowStep]) -> Result<Outcome, Fail> {
+// All steps on all cells, one step after the other.
+fn chained(alloc: Global, cells: &Cells, steps: &[SlowStep]) -> Result<Outcome, Fail> {
     let mut values = Vec::from_slice(alloc, &cells.cells)?;
     let mut op = 0u32;
     for step in steps {
@@ -145,7 +225,7 @@ pub(crate) fn chained(alloc: Global, cells: &Cells, steps: &[SlowStep]) -> Resul
         }
         op = op.saturating_add(1);
     }
-    Ok(Outcome::Cells(numbers(alloc, &values)?))
+    Ok(Outcome::Cells(cells.rows, cells.cols, numbers(alloc, &values)?))
 }
 
 // The step on each value up to the first that has a fault, and where that stands.
@@ -159,13 +239,8 @@ fn stepped(step: SlowStep, values: &mut [i64]) -> Option<usize> {
     None
 }
 
-/// The cells with the row's number in their column.
-pub(crate) fn with_row(
-    alloc: Global,
-    cells: &Cells,
-    op: CellOp,
-    row: &[i64],
-) -> Result<Outcome, Fail> {
+// The cells with the row's number in their column.
+fn with_row(alloc: Global, cells: &Cells, op: CellOp, row: &[i64]) -> Result<Outcome, Fail> {
     let mut made = Vec::new(alloc);
     let cols = cells.cols as usize;
     for place in 0..cells.cells.len() {
@@ -176,7 +251,7 @@ pub(crate) fn with_row(
             None => return fault(0, place, cols),
         }
     }
-    Ok(Outcome::Cells(numbers(alloc, &made)?))
+    Ok(Outcome::Cells(cells.rows, cells.cols, numbers(alloc, &made)?))
 }
 
 // A fault at this step and cell.

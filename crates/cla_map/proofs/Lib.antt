@@ -5,3 +5,4 @@ pub mod Shapes
 pub mod Results
 pub mod Ends
 pub mod RowEnds
+pub mod Rooms

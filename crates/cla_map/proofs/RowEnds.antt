@@ -1,5 +1,6 @@
 -- What a row over a table answers.
-use Rattle.std.proofs.Common.{◌≡◌, false, ℕ, ℤ, ◌+◌, ◌*◌, ◌/◌, ◌%◌, ◌<◌, ◌≤◌, List, [], ◌∷◌, length, map, Option, Some, None, refl, ap, sym, ◌∙◌, arith}
+use Rattle.std.proofs.Common.{◌≡◌, false, ℕ, ℤ, ◌+◌, ◌*◌, ◌/◌, ◌%◌, ◌<◌, ◌≤◌, List, [], ◌∷◌, length, map, Option, Some}
+use Rattle.std.proofs.Common.{None, refl, ap, sym, ◌∙◌, arith}
 use Rattle.std.proofs.Math.Nat.{mul-le-mul_right}
 use Rattle.cla_spec.specs.Matrix.{most_cells}
 use Rattle.cla_spec.proofs.Entries.{cell_within}
@@ -43,7 +44,8 @@ abbrev pub last_of : ℕ → ColumnStep → ℕ → ℤ → ℤ
 last_of bits f j = last_value bits (f j ∷ [])
 
 -- the first cell that stops gives the fault
-first_cell : (bits rows cols : ℕ) (f : ColumnStep) (entry : ℕ → ℕ → ℤ) (m : Misfit) → 1 ≤ cols → rows * cols ≤ most_cells → m.place < most_cells
+first_cell : (bits rows cols : ℕ) (f : ColumnStep) (entry : ℕ → ℕ → ℤ) (m : Misfit) → 1 ≤ cols
+    → rows * cols ≤ most_cells → m.place < most_cells
     → Tells (StopsIn (stop_of bits f) rows cols (λ i j. i * cols + j) entry) (Some m)
     → fault_of bits rows cols (λ i j. f j (entry i j)) ≡ Some (fault_of_misfit cols m)
 first_cell bits rows cols f entry m some few placed ((i, j, op, row, col, stops, is), least) =
@@ -57,10 +59,17 @@ first_cell bits rows cols f entry m some few placed ((i, j, op, row, col, stops,
       col = col;
       faulty = here.0;
       least = λ r c w row' col' wrong.
-          (let after = least (0 * most_cells + (r * cols + c)) w (r, c, 0, row', col', ap (or_stop None 0) wrong, refl) in
+          (let after = least (0 * most_cells + (r * cols + c)) w (r, c, 0, row', col', ap (or_stop None 0) wrong, refl)
+          in
           omega (arith, after, is, here.1));
     })
-    ∙ ap (λ (o : ℕ). Some (record { op = o; row = (i * cols + j) / cols + 1; col = (i * cols + j) % cols + 1; what = m.what })) step
+    ∙ ap (λ (o : ℕ). Some (record {
+      op = o;
+      row = (i * cols + j) / cols + 1;
+      col = (i * cols + j) % cols + 1;
+      what =
+          m.what;
+    })) step
     ∙ ap (λ (p : ℕ). Some (record { op = m.op; row = p / cols + 1; col = p % cols + 1; what = m.what })) place
 
 -- the place of a cell of a base that isn't flipped
@@ -71,34 +80,41 @@ cells_tell : (bits : ℕ) (f : ColumnStep) (base : Layout) (first : Option Misfi
     → Tells (StopsInParts (stop_of bits f) (plain_place base) base.parts (length base.parts)) first
     → Tells (StopsIn (stop_of bits f) base.rows base.cols (λ i j. i * base.cols + j) (entry_in base.parts)) first
 cells_tell bits f base first whole tells =
-    tells_cells bits base (stop_of bits f) (λ i j. i * base.cols + j) first whole (λ i r j le. omega (arith, mul-le-mul_right base.cols le)) tells
+    tells_cells bits base (stop_of bits f) (λ i j. i * base.cols + j) first whole
+    (λ i r j le. omega (arith, mul-le-mul_right base.cols le)) tells
 
 pub row_stops : (bits : ℕ) (f : ColumnStep) (base : Layout) (m : Misfit) → IsWhole bits base → m.place < most_cells
     → Tells (StopsInParts (stop_of bits f) (plain_place base) base.parts (length base.parts)) (Some m)
     → fault_of bits base.rows base.cols (λ i j. f j (entry_in base.parts i j)) ≡ Some (fault_of_misfit base.cols m)
 row_stops bits f base m whole placed tells =
-    first_cell bits base.rows base.cols f (entry_in base.parts) m whole.a_col whole.few placed (cells_tell bits f base (Some m) whole tells)
+    first_cell bits base.rows base.cols f (entry_in base.parts) m whole.a_col whole.few placed
+    (cells_tell bits f base (Some m) whole tells)
 
 none_of_cells : (bits : ℕ) (f : ColumnStep) (base : Layout) → IsWhole bits base
     → Tells (StopsInParts (stop_of bits f) (plain_place base) base.parts (length base.parts)) None
     → (i j : ℕ) → i < base.rows → j < base.cols → stop_of bits f j (entry_in base.parts i j) ≡ None
 none_of_cells bits f base whole tells =
-    none_stops (stop_of bits f) base.rows base.cols (λ i j. i * base.cols + j) (entry_in base.parts) (cells_tell bits f base None whole tells)
+    none_stops (stop_of bits f) base.rows base.cols (λ i j. i * base.cols + j) (entry_in base.parts)
+    (cells_tell bits f base None whole tells)
 
 pub row_goes : (bits : ℕ) (f : ColumnStep) (base : Layout) → IsWhole bits base
     → Tells (StopsInParts (stop_of bits f) (plain_place base) base.parts (length base.parts)) None
     → fault_of bits base.rows base.cols (λ i j. f j (entry_in base.parts i j)) ≡ None
 row_goes bits f base whole tells =
     no_fault bits base.rows base.cols (λ i j. f j (entry_in base.parts i j)) whole.a_col
-    (λ i j row col. stop_goes (cell_fault bits (f j (entry_in base.parts i j))) (none_of_cells bits f base whole tells i j row col))
+    (λ i j row col. stop_goes (cell_fault bits (f j (entry_in base.parts i j)))
+    (none_of_cells bits f base whole tells i j row col))
 
 -- parts with each value mapped make the table of the results
-pub row_mapped : {G : Type 0} (bits : ℕ) (codes : G → List ℕ) (dictionary : G → List (List ℤ)) (f : ColumnStep) (rows cols : ℕ) (old parts : List (Part G))
+pub row_mapped : {G : Type 0} (bits : ℕ) (codes : G → List ℕ) (dictionary : G → List (List ℤ)) (f : ColumnStep)
+    (rows cols : ℕ) (old parts : List (Part G))
     → IsWhole bits (layout_of codes dictionary (record { rows = rows; cols = cols; flipped = false; parts = old }))
-    → Tells (StopsInParts (stop_of bits f) (place_in (record { rows = rows; cols = cols; flipped = false })) (parts_of codes dictionary old) (length (parts_of codes dictionary old))) None
+    → Tells (StopsInParts (stop_of bits f) (place_in (record { rows = rows; cols = cols; flipped = false }))
+    (parts_of codes dictionary old) (length (parts_of codes dictionary old))) None
     → parts_of codes dictionary parts ≡ map (mapped_part (last_of bits f)) (parts_of codes dictionary old)
     → IsMappedTo codes dictionary (λ i j. integer_of (f j (entry_in (parts_of codes dictionary old) i j)))
-    (record { rows = rows; cols = cols; flipped = false; parts = old }) (record { rows = rows; cols = cols; flipped = false; parts = parts })
+    (record { rows = rows; cols = cols; flipped = false; parts = old })
+    (record { rows = rows; cols = cols; flipped = false; parts = parts })
 row_mapped {G} bits codes dictionary f rows cols old parts whole tells same =
     let m : TableOf G = record { rows = rows; cols = cols; flipped = false; parts = old } in
     let base = layout_of codes dictionary m in

@@ -1,5 +1,6 @@
 -- What the calls of a chain answer.
-use Rattle.std.specs.Prelude.{◌≡◌, ℕ, ℤ, ◌+◌, ◌*◌, ◌<◌, ◌≤◌, List, length, map, Option, Some, None, Result, Ok, Err, Bool, if◌then◌else◌}
+use Rattle.std.specs.Prelude.{◌≡◌, ℕ, ℤ, ◌+◌, ◌*◌, ◌<◌, ◌≤◌, List, length, map, Option, Some, None, Result, Ok, Err}
+use Rattle.std.specs.Prelude.{Bool, if◌then◌else◌}
 use Rattle.cla_spec.specs.Matrix.{most_cells}
 use Rattle.cla_num.specs.Counts.{Counts}
 use Rattle.cla_num.specs.declared.fault.OpFault.{OpFault}
@@ -29,7 +30,8 @@ pub record HasShape (bits : ℕ) (shape : Shape) (part : LayoutPart) : Type 0 wh
   pub few : shape.rows * shape.cols ≤ most_cells
 
 -- tuple t is done: its values are appended, and the first that stops is told
-pub record MapsTuple (stop : ℕ → ℤ → Option Stop) (h : ℕ → ℤ → ℤ) (shape : Shape) (part : LayoutPart) (t : ℕ) (new : List ℤ)
+pub record MapsTuple (stop : ℕ → ℤ → Option Stop) (h : ℕ → ℤ → ℤ) (shape : Shape) (part : LayoutPart) (t : ℕ)
+    (new : List ℤ)
     (first : Option Misfit) (steps : ℕ) (before now : Counts) : Type 0 where
   pub values : new ≡ part_values h part (t * length part.columns + length part.columns)
   pub tells : Tells (StopsInTuple stop (place_in shape) part t (length part.columns)) first

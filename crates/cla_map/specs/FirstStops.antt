@@ -16,7 +16,8 @@ key_of m = m.op * most_cells + m.place
 -- a cell that stops, of these rows and columns, with its key, and why; whether it stops may depend on the column
 abbrev pub StopsIn : (ℕ → ℤ → Option Stop) → ℕ → ℕ → (ℕ → ℕ → ℕ) → (ℕ → ℕ → ℤ) → ℕ → What → Type 0
 StopsIn stop rows cols place entry key what =
-    (i : ℕ) × (j : ℕ) × (op : ℕ) × (i < rows) × (j < cols) × (stop j (entry i j) ≡ Some (record { op = op; what = what }))
+    (i : ℕ) × (j : ℕ) × (op : ℕ) × (i < rows) × (j < cols)
+    × (stop j (entry i j) ≡ Some (record { op = op; what = what }))
     × (key ≡ op * most_cells + place i j)
 
 -- the first of those that fail, if any does
@@ -27,7 +28,8 @@ Tells Fails (Some m) = Fails (key_of m) m.what × ((key : ℕ) (what : What) →
 -- one of the first n values of tuple t stops
 abbrev pub StopsInTuple : (ℕ → ℤ → Option Stop) → (ℕ → ℕ → ℕ) → LayoutPart → ℕ → ℕ → ℕ → What → Type 0
 StopsInTuple stop place part t n =
-    StopsIn (λ c. stop (column_at part.columns c)) 1 n (λ i c. place (first_row_of part.codes t) (column_at part.columns c))
+    StopsIn (λ c. stop (column_at part.columns c)) 1 n
+    (λ i c. place (first_row_of part.codes t) (column_at part.columns c))
     (λ i c. value_of part.tuples t c)
 
 -- a value of a part's tuples stops; it stands for the cell in its tuple's first row
@@ -47,7 +49,8 @@ part_values h part m = mapped_values (λ c. h (column_at part.columns c)) (lengt
 -- the same columns and codes, and each value mapped
 abbrev pub mapped_part : (ℕ → ℤ → ℤ) → LayoutPart → LayoutPart
 mapped_part h part = record part {
-  tuples = tuples_of (length part.columns) (length part.tuples) (part_values h part (length part.tuples * length part.columns));
+  tuples = tuples_of (length part.columns) (length part.tuples)
+      (part_values h part (length part.tuples * length part.columns));
 }
 
 abbrev pub mapped_layout : (ℕ → ℤ → ℤ) → Layout → Layout

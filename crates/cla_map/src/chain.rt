@@ -19,6 +19,7 @@ ghost use Rattle.cla_map.specs.Answers.{HasShape, MapsTuple, MapsPart, MapsParts
 
 use crate::mapping::{Chain, Mapping, RowOp};
 use crate::misfit::{Misfit, lesser, placed};
+use crate::room::{Room, rooms_for};
 use crate::shape::{Shape, base_of};
 use crate::step::Step;
 use cla_coded::{Part, Table};
@@ -60,10 +61,10 @@ fn map_tuple<N: Number, G: Group<N>, M: Mapping<N>>(
     Ok(first)
 }
 
-// All steps on the values of a part.
+// All steps on the values of a part, for which there is room.
 fn map_part<N: Number, G: Owned<N> + Drop, M: Mapping<N>>(
     alloc: Global,
-    part: &Part<G>,
+    room: Room<N, G>,
     shape: Shape,
     mapping: &M,
     meter: &mut Meter,
@@ -71,17 +72,19 @@ fn map_part<N: Number, G: Owned<N> + Drop, M: Mapping<N>>(
     requires bits { IsSupported N.BITS }
     requires few { M.steps mapping.now < 2 ^ 32 }
     requires covers { (j : ℕ) → j < shape.cols → M.covers mapping.now j }
-    requires shape { HasShape N.BITS shape (part_of G.codes G.dictionary part.now) }
+    requires shape { HasShape N.BITS shape (part_of G.codes G.dictionary room.part.now) }
     requires room { AreBelow part_room meter.old }
-    ensures done { let p = part_of G.codes G.dictionary part.now in
+    ensures done { let p = part_of G.codes G.dictionary room.entry.part.now in
         IfOk result (λ r. MapsPart (M.stop mapping.now) (M.last mapping.now) shape p
         (part_of G.codes G.dictionary r.0) r.1 (M.steps mapping.now) meter.old meter.new) }
-    ensures counts { let p = part_of G.codes G.dictionary part.now in
+    ensures counts { let p = part_of G.codes G.dictionary room.entry.part.now in
         HasMapsUpTo (length p.tuples * length p.columns * M.steps mapping.now) meter.old meter.new }
 {
-    let columns = Vec::from_slice(alloc, &part.columns)?;
-    let count = part.group.tuples() as usize * part.columns.len();
-    let mut values = Vec::with_capacity(alloc, count)?;
+    let Room {
+        part,
+        columns,
+        mut values,
+    } = room;
     let mut first = None;
     for t in 0..part.group.tuples() {
         let found = map_tuple(part, t, shape, mapping, &mut values, meter)?;
@@ -91,7 +94,7 @@ fn map_part<N: Number, G: Owned<N> + Drop, M: Mapping<N>>(
     Ok((Part { columns, group }, first))
 }
 
-// All steps on the values of all parts.
+// All steps on the values of all parts. All room is taken before the first step.
 fn map_parts<N: Number, G: Owned<N> + Drop, M: Mapping<N>>(
     alloc: Global,
     parts: &[Part<G>],
@@ -110,10 +113,11 @@ fn map_parts<N: Number, G: Owned<N> + Drop, M: Mapping<N>>(
     ensures counts { let old = parts_of G.codes G.dictionary parts.now in
         HasMapsUpTo (values_of old * M.steps mapping.now) meter.old meter.new }
 {
+    let rooms = rooms_for(alloc, parts)?;
     let mut mapped = Vec::with_capacity(alloc, parts.len())?;
     let mut first = None;
-    for part in parts {
-        let (next, found) = map_part(alloc, part, shape, mapping, meter)?;
+    for room in rooms {
+        let (next, found) = map_part(alloc, room, shape, mapping, meter)?;
         mapped.push(next)?;
         first = lesser(first, found);
     }
@@ -125,7 +129,8 @@ fn map_parts<N: Number, G: Owned<N> + Drop, M: Mapping<N>>(
 ///
 /// Each value of a dictionary goes through the steps once, and stands for the cells of all rows of its
 /// tuple (PVLDB 9(12), section 3), of which that in the tuple's first row comes first. No row is scanned:
-/// it makes one map evaluation for each value and step. It takes the values of the new dictionaries.
+/// it makes one map evaluation for each value and step. It takes the values of the new dictionaries before
+/// the first step.
 pub fn map_chain<N: Number, G: Owned<N> + Drop>(
     alloc: Global,
     m: &Table<N, G>,
@@ -159,7 +164,7 @@ pub fn map_chain<N: Number, G: Owned<N> + Drop>(
 /// row.
 ///
 /// As for `map_chain`, each value of a dictionary is mapped once, and no row is scanned: it makes one map
-/// evaluation for each value. It takes the values of the new dictionaries.
+/// evaluation for each value. It takes the values of the new dictionaries before it begins.
 pub fn broadcast_row<N: Number, G: Owned<N> + Drop>(
     alloc: Global,
     m: &Table<N, G>,

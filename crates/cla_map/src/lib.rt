@@ -4,6 +4,7 @@
 mod chain;
 mod mapping;
 mod misfit;
+mod room;
 mod shape;
 mod step;
 

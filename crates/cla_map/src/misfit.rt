@@ -5,7 +5,8 @@ ghost use Rattle.cla_num.specs.Bits.{IsSupported};
 ghost use Rattle.cla_num.specs.Counts.{AreBelow};
 ghost use Rattle.cla_meaning.specs.Counts.{AreRaised};
 ghost use Rattle.cla_map.specs.Steps.{step_cell};
-ghost use Rattle.cla_map.specs.Stops.{last_value, stop_from, misfit_of, lesser_of, fault_of_misfit, value_room, GivesNumber};
+ghost use Rattle.cla_map.specs.Stops.{last_value, stop_from, misfit_of, lesser_of, fault_of_misfit, value_room};
+ghost use Rattle.cla_map.specs.Stops.{GivesNumber};
 
 use crate::step::Step;
 use cla_num::{Meter, Number, OpFault, What};

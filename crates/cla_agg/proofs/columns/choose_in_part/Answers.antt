@@ -1,9 +1,8 @@
-use Rattle.std.proofs.Common.{◌≡◌, ◌<◌, ◌+◌, ℕ, length, subst, sym, ◌∙◌, arith}
+use Rattle.std.proofs.Common.{◌≡◌, ℕ, length, subst, ◌∙◌, arith}
 use Rattle.cla_layout.specs.Groups.{at, value_of}
 use Rattle.cla_layout.specs.GroupLaws.{IsExtreme}
 use Rattle.cla_layout.specs.Layouts.{column_at}
 use Rattle.cla_layout.proofs.Regroup.{codes_of_group, extremes_regroup}
-use Rattle.cla_coded.specs.Parts.{part_of}
 use Rattle.cla_agg.proofs.Extremes.{extreme_one}
 use Rattle.cla_agg.proofs.columns.choose_in_part.Goals as goal
 

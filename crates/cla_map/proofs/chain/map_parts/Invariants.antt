@@ -1,4 +1,4 @@
-use Rattle.std.proofs.Common.{◌≡◌, ◌*◌, map, take}
+use Rattle.std.proofs.Common.{◌≡◌, ◌*◌, length, map, take}
 use Rattle.cla_coded.specs.Parts.{parts_of}
 use Rattle.cla_map.specs.Stops.{place_in}
 use Rattle.cla_meaning.specs.Counts.{AreRaised}
@@ -7,12 +7,15 @@ use Rattle.cla_layout.specs.Values.{values_of}
 use Rattle.cla_map.specs.Answers.{IsPlaced}
 use Rattle.cla_map.proofs.chain.map_parts.Given as goal
 
--- the parts before part-index
-abbrev pub invariant-loop-part : goal.invariant-loop-part
-invariant-loop-part g l = record {
+-- the parts that were taken
+abbrev pub invariant-loop-room : goal.invariant-loop-room
+invariant-loop-room g l = record {
   values : parts_of g.G.Group.codes g.G.Group.dictionary l.mapped.items
-      ≡ take l.part-index (map (mapped_part (g.M.Mapping.last l.mapping)) (parts_of g.G.Group.codes g.G.Group.dictionary l.parts));
-  tells : Tells (StopsInParts (g.M.Mapping.stop l.mapping) (place_in l.shape) (parts_of g.G.Group.codes g.G.Group.dictionary l.parts) l.part-index) l.first;
+      ≡ take (length l.yielded) (map (mapped_part (g.M.Mapping.last l.mapping))
+      (parts_of g.G.Group.codes g.G.Group.dictionary l.parts));
+  tells : Tells (StopsInParts (g.M.Mapping.stop l.mapping) (place_in l.shape)
+      (parts_of g.G.Group.codes g.G.Group.dictionary l.parts) (length l.yielded)) l.first;
   placed : IsPlaced l.first;
-  counts : AreRaised (values_of (take l.part-index (parts_of g.G.Group.codes g.G.Group.dictionary l.parts)) * g.M.Mapping.steps l.mapping) l.first l.fn.meter l.meter;
+  counts : AreRaised (values_of (take (length l.yielded) (parts_of g.G.Group.codes g.G.Group.dictionary l.parts))
+      * g.M.Mapping.steps l.mapping) l.first l.fn.meter l.meter;
 }

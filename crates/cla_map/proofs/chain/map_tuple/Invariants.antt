@@ -9,8 +9,10 @@ use Rattle.cla_map.proofs.chain.map_tuple.Given as goal
 -- the values before place c
 abbrev pub invariant-loop-c : goal.invariant-loop-c
 invariant-loop-c g l = record {
-  values : map g.N.Number.value l.values.items ≡ part_values (g.M.Mapping.last l.mapping) (part_of g.G.Group.codes g.G.Group.dictionary l.part) (l.t * length l.part.columns.items + l.c);
-  tells : Tells (StopsInTuple (g.M.Mapping.stop l.mapping) (place_in l.shape) (part_of g.G.Group.codes g.G.Group.dictionary l.part) l.t l.c) l.first;
+  values : map g.N.Number.value l.values.items ≡ part_values (g.M.Mapping.last l.mapping)
+      (part_of g.G.Group.codes g.G.Group.dictionary l.part) (l.t * length l.part.columns.items + l.c);
+  tells : Tells (StopsInTuple (g.M.Mapping.stop l.mapping) (place_in l.shape)
+      (part_of g.G.Group.codes g.G.Group.dictionary l.part) l.t l.c) l.first;
   placed : IsPlaced l.first;
   counts : AreRaised (l.c * g.M.Mapping.steps l.mapping) l.first l.fn.meter l.meter;
 }
