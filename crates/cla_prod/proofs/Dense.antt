@@ -1,11 +1,13 @@
 -- Tables that are made dense.
-use Rattle.std.proofs.Common.{◌≡◌, ℕ, ℤ, ◌+◌, ◌*◌, ◌<◌, ◌≤◌, ◌*ℤ◌, List, length, take, get_or, Bool, true, false, not, cond, refl, ap, subst, sym, ◌∙◌, arith}
+use Rattle.std.proofs.Common.{◌≡◌, ℕ, ℤ, ◌+◌, ◌*◌, ◌<◌, ◌≤◌, ◌*ℤ◌, List, length, take, get_or, Bool, true, false, not}
+use Rattle.std.proofs.Common.{cond, refl, ap, subst, sym, ◌∙◌, arith}
 use Rattle.cla_spec.specs.Numbers.{sum_to}
 use Rattle.cla_spec.specs.Matrix.{Matrix, entry, most_cells}
 use Rattle.cla_spec.proofs.Entries.{row_by_row-entry}
 use Rattle.cla_spec.proofs.Sums.{sum_to-same}
 use Rattle.cla_layout.specs.Groups.{IsGroup}
-use Rattle.cla_layout.specs.Layouts.{Layout, LayoutPart, IsPart, IsWhole, layout_with, part_at, matrix_in, matrix_as, entry_in, entry_as}
+use Rattle.cla_layout.specs.Layouts.{Layout, LayoutPart, IsPart, IsWhole, layout_with, part_at, matrix_in, matrix_as}
+use Rattle.cla_layout.specs.Layouts.{entry_in, entry_as}
 use Rattle.cla_layout.specs.Values.{values_of}
 use Rattle.cla_layout.proofs.Matrices.{entry_matrix_in}
 use Rattle.cla_layout.proofs.PartValues.{values_more, values_few}
@@ -75,6 +77,17 @@ pub plain_entry : (flipped : Bool) (layout : Layout) (i j : ℕ) → flipped ≡
     ≡ entry_as flipped layout i j
 plain_entry true layout i j plain = absurd (cc plain)
 plain_entry false layout i j plain = refl
+
+-- and one that is
+pub turned_shape : (flipped : Bool) (rows cols : ℕ) → flipped ≡ true
+    → (cond flipped cols rows ≡ cols) × (cond flipped rows cols ≡ rows)
+turned_shape true rows cols turn = (refl, refl)
+turned_shape false rows cols turn = absurd (cc turn)
+
+pub turned_entry : (flipped : Bool) (layout : Layout) (i j : ℕ) → flipped ≡ true → entry_in layout.parts j i
+    ≡ entry_as flipped layout i j
+turned_entry true layout i j turn = refl
+turned_entry false layout i j turn = absurd (cc turn)
 
 -- one more part has so many values more
 pub value_step : {G : Type 0} (bits : ℕ) (width : G → ℕ) (codes : G → List ℕ) (dictionary : G → List (List ℤ))

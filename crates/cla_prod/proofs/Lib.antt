@@ -6,4 +6,5 @@ pub mod LinesRead
 pub mod Firsts
 pub mod Answered
 pub mod Dense
+pub mod ColumnsRead
 pub mod Mirrors

@@ -1,5 +1,6 @@
 -- Lines that are read, and how many values a base has.
-use Rattle.std.proofs.Common.{◌≡◌, ℕ, ℤ, pos, suc, ◌+◌, ◌-◌, ◌*◌, ◌<◌, ◌≤◌, ◌*ℤ◌, List, Bool, true, false, cond, eqb, length, map, take, drop, refl, ap, sym, ◌∙◌, arith, length-drop}
+use Rattle.std.proofs.Common.{◌≡◌, ℕ, ℤ, pos, suc, ◌+◌, ◌-◌, ◌*◌, ◌<◌, ◌≤◌, ◌*ℤ◌, List, Bool, true, false, cond, eqb}
+use Rattle.std.proofs.Common.{length, map, take, drop, refl, ap, sym, ◌∙◌, arith, length-drop}
 use Rattle.std.proofs.Math.Nat.{mul_comm, mul-le-mul, mul-le-mul_left, mul-le-mul_right}
 use Rattle.std.proofs.lemmas.Bool.{eqb-true}
 use Rattle.std.proofs.lemmas.List.{length-take-le, get_or-take, get_or-drop, take-map, drop-map, take_all}
@@ -12,7 +13,8 @@ use Rattle.cla_layout.proofs.PartValues.{values_few}
 use Rattle.cla_prod.specs.declared.lines.Lines.{Lines}
 use Rattle.cla_prod.specs.declared.numbers.Order.{Order}
 use Rattle.cla_prod.specs.declared.numbers.Order.TheVariants.{Rows, Columns, Mirrored}
-use Rattle.cla_prod.specs.Lines.{base_for, entry_turned, item_times, line_times, lines_in, inner_in, line_item, copied_in, AreLines}
+use Rattle.cla_prod.specs.Lines.{base_for, entry_turned, item_times, lines_in, inner_in, line_item}
+use Rattle.cla_prod.specs.Lines.{copied_in, AreLines}
 
 -- how long line l is
 pub line_length : {X : Type 0} (l count width n : ℕ) (xs : List X) → l < count → length xs ≡ count * width → n ≡ width
@@ -30,15 +32,15 @@ item_in_line value a n k items there =
     ap (λ (xs : List ℤ). at xs k) (sym (take-map value n (drop a items)) ∙ ap (take n) (sym (drop-map value a items)))
     ∙ get_or-take n (drop a (map value items)) k (pos 0) there ∙ get_or-drop a (map value items) k (pos 0)
 
--- the product with items that are those of a line
-pub line_is : {X : Type 0} (value : X → ℤ) (parts : List LayoutPart) (lines : Lines) (m : Matrix) (line : List X)
-    (l i : ℕ) → length line ≡ lines.inner
-    → ((k : ℕ) → k < lines.inner → at (map value line) k ≡ line_item lines.order m l k)
-    → item_times lines.turned parts (at (map value line)) (length line) i ≡ line_times parts lines m l i
-line_is value parts lines m line l i long same =
+-- the product with items that are these
+pub items_are : {X : Type 0} (value : X → ℤ) (parts : List LayoutPart) (lines : Lines) (item : ℕ → ℤ) (line : List X)
+    (i : ℕ) → length line ≡ lines.inner → ((k : ℕ) → k < lines.inner → at (map value line) k ≡ item k)
+    → item_times lines.turned parts (at (map value line)) (length line) i
+    ≡ item_times lines.turned parts item lines.inner i
+items_are value parts lines item line i long same =
     ap (λ (n : ℕ). item_times lines.turned parts (at (map value line)) n i) long
     ∙ sum_to-same (λ k. entry_turned lines.turned parts i k *ℤ at (map value line) k)
-    (λ k. entry_turned lines.turned parts i k *ℤ line_item lines.order m l k) lines.inner
+    (λ k. entry_turned lines.turned parts i k *ℤ item k) lines.inner
     (λ k lt. ap (λ (z : ℤ). entry_turned lines.turned parts i k *ℤ z) (same k lt))
 
 some_copied : (b : Bool) (n : ℕ) → 0 < cond b 0 n → cond b 0 n ≡ n

@@ -1,4 +1,4 @@
 pub mod Answers
 pub mod Sums
 pub mod Lines
-pub mod Squares
+pub mod Columns

@@ -1,5 +1,6 @@
 -- Matrices that are kept line by line: lines are rows or columns.
-use Rattle.std.specs.Prelude.{◌≡◌, ℕ, ℤ, ◌+◌, ◌*◌, ◌<◌, ◌/◌, ◌%◌, ◌≤◌, ◌*ℤ◌, ◌==◌, List, map, Bool, min, max, if◌then◌else◌}
+use Rattle.std.specs.Prelude.{◌≡◌, ℕ, ℤ, ◌+◌, ◌*◌, ◌<◌, ◌/◌, ◌%◌, ◌≤◌, ◌*ℤ◌, ◌==◌, List, map, Bool, min, max}
+use Rattle.std.specs.Prelude.{if◌then◌else◌}
 use Rattle.cla_spec.specs.Numbers.{sum_to}
 use Rattle.cla_spec.specs.Matrix.{Matrix, entry, most_cells}
 use Rattle.cla_layout.specs.Groups.{at}

@@ -33,7 +33,8 @@ pub record AreSet (first n : ℕ) (columns : List ℕ) (value : ℕ → ℤ) (ol
   pub here : (c : ℕ) → first ≤ c → c < n → at new (column_at columns c) ≡ value c
   pub kept : (j : ℕ) → ((c : ℕ) → first ≤ c → c < n → column_at columns c ≡ j → ⊥) → at new j ≡ at old j
 
--- the columns of a part, from column `from` on, hold the product with a vector; columns of other parts hold what they held
+-- the columns of a part, from column `from` on, hold the product with a vector; columns of other parts hold what
+-- they held
 pub record AreGathered (from rows : ℕ) (part : LayoutPart) (item : ℕ → ℤ) (old new : List ℤ) : Type 0 where
   pub here : (c : ℕ) → c < length part.columns → from ≤ column_at part.columns c →
       at new (column_at part.columns c) ≡ sum_to (λ i. cell_of part.codes part.tuples i c *ℤ item i) rows
@@ -47,8 +48,8 @@ columns_from from columns = count_by (λ j. nat_le from j) columns
 abbrev pub values_from : ℕ → List LayoutPart → ℕ
 values_from from parts = sum_by (λ part. length part.tuples * columns_from from part.columns) parts
 
--- what the first n columns multiply, each with the columns from it on: a column with number j + 1 stands in that many of
--- these products, or in all n
+-- what the first n columns multiply, each with the columns from it on: a column with number j + 1 stands in that
+-- many of these products, or in all n
 abbrev pub numbers_to : ℕ → List ℕ → ℕ
 numbers_to n columns = sum_by (λ j. min (j + 1) n) columns
 

@@ -11,7 +11,8 @@ ghost use Rattle.cla_layout.specs.Groups.{at, value_of, cell_of};
 ghost use Rattle.cla_layout.specs.Layouts.{IsPart, IsWhole, layout_with, column_at, entry_in};
 ghost use Rattle.cla_coded.specs.Parts.{part_of, parts_of};
 ghost use Rattle.cla_meaning.specs.Counts.{HasMults};
-ghost use Rattle.cla_prod.specs.Sums.{column_times, FitsColumns, HasTuplesUpTo, AreSet, AreGathered, columns_from, values_from};
+ghost use Rattle.cla_prod.specs.Sums.{column_times, FitsColumns, HasTuplesUpTo, AreSet, AreGathered, columns_from};
+ghost use Rattle.cla_prod.specs.Sums.{values_from};
 ghost use Rattle.cla_prod.specs.Sums.{line_bound, part_bound, tuple_bound};
 
 use cla_coded::Part;

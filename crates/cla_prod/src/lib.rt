@@ -2,6 +2,7 @@
 //! transpose and the table. All of them are products of a base, or its transpose, and vectors.
 #![tactic(auto)]
 
+mod columns;
 mod gathers;
 mod lines;
 mod numbers;

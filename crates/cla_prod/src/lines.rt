@@ -10,7 +10,7 @@ ghost use Rattle.cla_layout.specs.Values.{values_of};
 ghost use Rattle.cla_coded.specs.Parts.{parts_of};
 ghost use Rattle.cla_meaning.specs.Counts.{HasMults};
 ghost use Rattle.cla_prod.specs.Sums.{HasTuplesUpTo, line_bound};
-ghost use Rattle.cla_prod.specs.Lines.{AreLines, base_for, copied_in, item_times, line_times};
+ghost use Rattle.cla_prod.specs.Lines.{AreLines, base_for, cols_in, copied_in, item_times, line_times, rows_in};
 
 use crate::gathers::times_base;
 use crate::numbers::Order;
@@ -19,8 +19,8 @@ use cla_coded::Part;
 use cla_group::Group;
 use cla_num::{Dense, Meter, Number, Wide};
 
-/// How a base is multiplied with the lines of a matrix: whether it is turned, whether the lines are the
-/// matrix's rows or its columns, how many there are, how many items each has, and how many each product has.
+/// How a base is multiplied with lines: whether it is turned, whether the products are the rows or the columns
+/// of the result, how many lines there are, how many items each has, and how many each product has.
 #[derive(Clone, Copy, Debug)]
 pub struct Lines {
     pub turned: bool,
@@ -95,8 +95,8 @@ fn times_line_of<N: Number, G: Group<N>>(
     }
 }
 
-// The base, or its transpose, times one line.
-fn times_line<N: Number, G: Group<N>>(
+/// The base, or its transpose, times one line.
+pub(crate) fn times_line<N: Number, G: Group<N>>(
     parts: &[Part<G>],
     turned: bool,
     line: &[N],
@@ -141,6 +141,17 @@ pub(crate) fn most_tuples<N: Number, G: Group<N>>(parts: &[Part<G>]) -> u32
         most = part.group.tuples().max(most);
     }
     most
+}
+
+/// The rows and columns of the matrix whose lines the products are.
+pub(crate) fn shape(lines: Lines) -> (u32, u32)
+    ensures rows { result.0 ≡ rows_in lines.order lines }
+    ensures cols { result.1 ≡ cols_in lines.order lines }
+{
+    match lines.order {
+        Order::Rows | Order::Mirrored => (lines.count, lines.outer),
+        Order::Columns => (lines.outer, lines.count),
+    }
 }
 
 // Copies one column.

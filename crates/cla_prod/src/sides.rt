@@ -11,7 +11,7 @@ ghost use Rattle.cla_meaning.specs.Entries.{product_entry};
 ghost use Rattle.cla_prod.specs.Answers.{AnswersEntries, CountsMults};
 ghost use Rattle.cla_prod.specs.Lines.{AreLines, rows_in, cols_in, entry_by_lines, line_times, IsSquare};
 
-use crate::lines::{Lines, copied, most_tuples, times_lines};
+use crate::lines::{Lines, copied, most_tuples, shape, times_lines};
 use crate::numbers::{Order, numbers_of};
 use cla_coded::{Part, Table};
 use cla_group::Group;
@@ -101,7 +101,8 @@ fn product_by_lines<N: Number, G: Group<N>>(
         AreLines N.BITS parts lines m.now (lines.count * lines.outer) }
     requires square { IsSquare lines.order (rows_in lines.order lines) (cols_in lines.order lines) }
     requires room { AreBelow kernel_bound meter.old }
-    ensures product { let exact = entry_by_lines lines.order (line_times (parts_of G.codes G.dictionary parts.now) lines m.now) in
+    ensures product { let parts = parts_of G.codes G.dictionary parts.now in
+        let exact = entry_by_lines lines.order (line_times parts lines m.now) in
         AnswersEntries N.BITS (rows_in lines.order lines) (cols_in lines.order lines) exact result }
     ensures counts { let values = values_of (parts_of G.codes G.dictionary parts.now) in
         CountsMults (values * lines.count) result meter.old meter.new }
@@ -134,16 +135,5 @@ fn product_by_lines<N: Number, G: Group<N>>(
     match numbers_of(&exact, lines.order, rows, cols, &mut numbers) {
         Ok(()) => Ok(Dense::new(rows, cols, numbers)),
         Err(fault) => Err(Refused::Op(fault)),
-    }
-}
-
-// The rows and columns of the matrix whose lines the products are.
-fn shape(lines: Lines) -> (u32, u32)
-    ensures rows { result.0 ≡ rows_in lines.order lines }
-    ensures cols { result.1 ≡ cols_in lines.order lines }
-{
-    match lines.order {
-        Order::Rows | Order::Mirrored => (lines.count, lines.outer),
-        Order::Columns => (lines.outer, lines.count),
     }
 }

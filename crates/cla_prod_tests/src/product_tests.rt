@@ -1,186 +1,115 @@
-//! Products of small tables in groups of each kind, plain and flipped, and of a table of many rows.
+//! Products of small tables in groups of each kind, plain and flipped, and of a table of many rows: the
+//! values and the counts were found by hand.
 
-ghost use Rattle.std.specs.Prelude.{◌≡◌};
-
-use cla_checked_tables::{Entry, group_of, numbers, table_of};
-use cla_coded::{AnyGroup, Coded, Part};
+use crate::products::{Due, left_is, product_is, right_is, self_product_is};
+use crate::tables::{GREATEST, KINDS, matrix, table};
+use cla_checked_tables::Entry;
+use cla_coded::Coded;
 use cla_group::Kind;
-use cla_num::{Dense, Meter, Refused};
-use cla_prod::{left, product, right, self_product};
 use std::alloc::Global;
-use std::process::Abort;
 use std::test::Fail;
 
-const KINDS: [Kind; 4] = [Kind::Plain, Kind::Codes, Kind::Offsets, Kind::Runs];
-
-const MOST_CELLS: u64 = 1 << 26;
-
-const GREATEST: i64 = 140737488355327;
-
-// A product, and how many multiplications it took.
-type Product = (Dense<Entry>, u128);
-
-// It is the matrix of these cells, and it took so many multiplications.
-fn is(
-    rt: &impl Abort,
-    alloc: Global,
-    product: Product,
-    cells: &[i64],
-    mults: u128,
-) -> Result<(), Fail> {
-    let (m, made) = product;
-    assert_eq!(rt; made, mults);
-    assert!(rt; m.cells() == numbers(alloc, cells)?.as_slice());
-    Ok(())
-}
-
-fn right_of(alloc: Global, a: &Coded<Entry>, b: &Dense<Entry>) -> Result<Product, Fail> {
-    if a.cols() != b.rows() || u64::from(a.rows()) * u64::from(b.cols()) > MOST_CELLS {
-        return Err(Fail::new("no product"));
+// These two, 500 times.
+fn repeated<T: Copy + Drop>(alloc: Global, pair: [T; 2]) -> Result<Vec<T>, Fail> {
+    let mut made = Vec::new(alloc);
+    for _ in 0..500u32 {
+        made.extend_from_slice(&pair)?;
     }
-    let mut meter = Meter::new();
-    let m = right(alloc, a, b, &mut meter)?;
-    Ok((m, meter.mults()))
-}
-
-fn left_of(alloc: Global, a: &Dense<Entry>, b: &Coded<Entry>) -> Result<Product, Fail> {
-    if a.cols() != b.rows() || u64::from(a.rows()) * u64::from(b.cols()) > MOST_CELLS {
-        return Err(Fail::new("no product"));
-    }
-    let mut meter = Meter::new();
-    let m = left(alloc, a, b, &mut meter)?;
-    Ok((m, meter.mults()))
-}
-
-fn product_of(alloc: Global, a: &Coded<Entry>, b: &Coded<Entry>) -> Result<Product, Fail> {
-    if a.cols() != b.rows() || u64::from(a.rows()) * u64::from(b.cols()) > MOST_CELLS {
-        return Err(Fail::new("no product"));
-    }
-    let mut meter = Meter::new();
-    let m = product(alloc, a, b, &mut meter)?;
-    Ok((m, meter.mults()))
-}
-
-fn self_product_of(alloc: Global, x: &Coded<Entry>) -> Result<Product, Fail> {
-    if x.flipped() || u64::from(x.cols()) * u64::from(x.cols()) > MOST_CELLS {
-        return Err(Fail::new("no product"));
-    }
-    let mut meter = Meter::new();
-    let m = self_product(alloc, x, &mut meter)?;
-    Ok((m, meter.mults()))
-}
-
-fn matrix(alloc: Global, rows: u32, cols: u32, cells: &[i64]) -> Result<Dense<Entry>, Fail> {
-    if rows == 0 || cols == 0 || cells.len() as u64 != u64::from(rows) * u64::from(cols) {
-        return Err(Fail::new("no matrix"));
-    }
-    if cells.len() as u64 > MOST_CELLS {
-        return Err(Fail::new("too many cells"));
-    }
-    Ok(Dense::new(rows, cols, numbers(alloc, cells)?))
-}
-
-fn part_of(
-    alloc: Global,
-    kind: Kind,
-    columns: &[u32],
-    codes: &[u32],
-    values: &[i64],
-) -> Result<Part<AnyGroup<Entry>>, Fail> {
-    let width = u32::try_from(columns.len())?;
-    Ok(Part {
-        columns: Vec::from_slice(alloc, columns)?,
-        group: group_of(alloc, kind, width, codes, values)?,
-    })
+    Ok(made)
 }
 
 // Two columns of 1000 rows, both 1, 2, 1, 2 and so on, in one group or in two.
 fn alternating(alloc: Global, groups: usize) -> Result<Coded<Entry>, Fail> {
-    let mut codes = Vec::new(alloc);
-    for i in 0..1000u32 {
-        codes.push(i % 2)?;
-    }
-    let mut parts = Vec::new(alloc);
-    if groups == 1 {
-        parts.push(part_of(alloc, Kind::Codes, &[0, 1], &codes, &[1, 1, 2, 2])?)?;
+    let codes = repeated(alloc, [0, 1])?;
+    let parts: &[(&[u32], &[i64])] = if groups == 1 {
+        &[(&[0, 1], &[1, 1, 2, 2])]
     } else {
-        parts.push(part_of(alloc, Kind::Codes, &[0], &codes, &[1, 2])?)?;
-        parts.push(part_of(alloc, Kind::Codes, &[1], &codes, &[1, 2])?)?;
-    }
-    table_of(alloc, 1000, 2, false, parts)
+        &[(&[0], &[1, 2]), (&[1], &[1, 2])]
+    };
+    table(alloc, Kind::Codes, 2, false, &codes, parts)
+}
+
+// The sums of the rows, and those of the columns.
+fn sums_of_alternating(alloc: Global, groups: usize, of_rows: &[i64]) -> Result<(), Fail> {
+    let v = matrix(alloc, 2, 1, &[1, 1])?;
+    right_is(
+        alloc,
+        alternating(alloc, groups)?,
+        v,
+        Due::Counted(of_rows, 4),
+    )?;
+    let ones = matrix(alloc, 1, 1000, &repeated(alloc, [1, 1])?)?;
+    left_is(
+        alloc,
+        ones,
+        alternating(alloc, groups)?,
+        Due::Counted(&[1500, 1500], 4),
+    )
 }
 
 #[test]
 fn many_rows_and_few_multiplications(rt: HostRuntime) -> Result<(), Fail> {
-    let alloc = rt.alloc();
-    let v = matrix(alloc, 2, 1, &[1, 1])?;
-    let ones = matrix(alloc, 1, 1000, &[1; 1000])?;
-    let mut sums = Vec::new(alloc);
-    for _ in 0..500u32 {
-        sums.extend_from_slice(&[2, 4])?;
-    }
-    for groups in [1, 2] {
-        let x = alternating(alloc, groups)?;
-        is(&rt, alloc, right_of(alloc, &x, &v)?, &sums, 4)?;
-        is(&rt, alloc, left_of(alloc, &ones, &x)?, &[1500, 1500], 4)?;
-    }
-    Ok(())
+    let of_rows = repeated(rt.alloc(), [2, 4])?;
+    sums_of_alternating(rt.alloc(), 1, &of_rows)?;
+    sums_of_alternating(rt.alloc(), 2, &of_rows)
 }
 
 // The rows (1, 2) and (3, 4) in groups of this kind.
 fn two_by_two(alloc: Global, kind: Kind, flipped: bool) -> Result<Coded<Entry>, Fail> {
-    let mut parts = Vec::new(alloc);
-    parts.push(part_of(alloc, kind, &[0], &[0, 1], &[1, 3])?)?;
-    parts.push(part_of(alloc, kind, &[1], &[0, 1], &[2, 4])?)?;
-    table_of(alloc, 2, 2, flipped, parts)
+    table(
+        alloc,
+        kind,
+        2,
+        flipped,
+        &[0, 1],
+        &[(&[0], &[1, 3]), (&[1], &[2, 4])],
+    )
+}
+
+// Two rows of three.
+fn by_a_matrix(alloc: Global, kind: Kind, flipped: bool, cells: &[i64]) -> Result<(), Fail> {
+    let b = matrix(alloc, 2, 3, &[1, 0, -1, 2, 5, 0])?;
+    right_is(
+        alloc,
+        two_by_two(alloc, kind, flipped)?,
+        b,
+        Due::Counted(cells, 12),
+    )
+}
+
+fn of_a_matrix(alloc: Global, kind: Kind, flipped: bool, cells: &[i64]) -> Result<(), Fail> {
+    let a = matrix(alloc, 3, 2, &[1, 2, 0, 5, -1, 0])?;
+    left_is(
+        alloc,
+        a,
+        two_by_two(alloc, kind, flipped)?,
+        Due::Counted(cells, 12),
+    )
+}
+
+fn of_tables(alloc: Global, kind: Kind, flips: (bool, bool), cells: &[i64]) -> Result<(), Fail> {
+    let a = two_by_two(alloc, kind, flips.0)?;
+    product_is(
+        alloc,
+        a,
+        two_by_two(alloc, kind, flips.1)?,
+        Due::Counted(cells, 8),
+    )
 }
 
 #[test]
 fn each_kind_plain_and_flipped(rt: HostRuntime) -> Result<(), Fail> {
     let alloc = rt.alloc();
-    let b = matrix(alloc, 2, 3, &[1, 0, -1, 2, 5, 0])?;
-    let c = matrix(alloc, 3, 2, &[1, 2, 0, 5, -1, 0])?;
     for kind in KINDS {
-        let x = two_by_two(alloc, kind, false)?;
-        let t = two_by_two(alloc, kind, true)?;
-        is(
-            &rt,
-            alloc,
-            right_of(alloc, &x, &b)?,
-            &[5, 10, -1, 11, 20, -3],
-            12,
-        )?;
-        is(
-            &rt,
-            alloc,
-            right_of(alloc, &t, &b)?,
-            &[7, 15, -1, 10, 20, -2],
-            12,
-        )?;
-        is(
-            &rt,
-            alloc,
-            left_of(alloc, &c, &x)?,
-            &[7, 10, 15, 20, -1, -2],
-            12,
-        )?;
-        is(
-            &rt,
-            alloc,
-            left_of(alloc, &c, &t)?,
-            &[5, 11, 10, 20, -1, -3],
-            12,
-        )?;
-        is(&rt, alloc, product_of(alloc, &x, &x)?, &[7, 10, 15, 22], 8)?;
-        is(&rt, alloc, product_of(alloc, &x, &t)?, &[5, 11, 11, 25], 8)?;
-        is(&rt, alloc, product_of(alloc, &t, &x)?, &[10, 14, 14, 20], 8)?;
-        is(
-            &rt,
-            alloc,
-            self_product_of(alloc, &x)?,
-            &[10, 14, 14, 20],
-            6,
-        )?;
+        by_a_matrix(alloc, kind, false, &[5, 10, -1, 11, 20, -3])?;
+        by_a_matrix(alloc, kind, true, &[7, 15, -1, 10, 20, -2])?;
+        of_a_matrix(alloc, kind, false, &[7, 10, 15, 20, -1, -2])?;
+        of_a_matrix(alloc, kind, true, &[5, 11, 10, 20, -1, -3])?;
+        of_tables(alloc, kind, (false, false), &[7, 10, 15, 22])?;
+        of_tables(alloc, kind, (false, true), &[5, 11, 11, 25])?;
+        of_tables(alloc, kind, (true, false), &[10, 14, 14, 20])?;
+        let square = Due::Counted(&[10, 14, 14, 20], 6);
+        self_product_is(alloc, two_by_two(alloc, kind, false)?, square)?;
     }
     Ok(())
 }
@@ -188,39 +117,10 @@ fn each_kind_plain_and_flipped(rt: HostRuntime) -> Result<(), Fail> {
 #[test]
 fn the_cheaper_side(rt: HostRuntime) -> Result<(), Fail> {
     let alloc = rt.alloc();
-    let x = alternating(alloc, 1)?;
+    let cells = &[2500, 2500, 2500, 2500];
     let t = alternating(alloc, 2)?.flip();
-    is(
-        &rt,
-        alloc,
-        product_of(alloc, &t, &x)?,
-        &[2500, 2500, 2500, 2500],
-        8,
-    )?;
-    is(
-        &rt,
-        alloc,
-        self_product_of(alloc, &x)?,
-        &[2500, 2500, 2500, 2500],
-        6,
-    )
-}
-
-// The step, row and column of an operator's fault.
-fn place_of(refused: Refused) -> Result<(u32, u32, u32), Fail> {
-    match refused {
-        Refused::Op(fault) => Ok((fault.op, fault.row, fault.col)),
-        Refused::Memory => Err(Fail::new("no memory")),
-    }
-}
-
-// Where a product has its fault.
-fn fault_of(alloc: Global, a: &Coded<Entry>, b: &Dense<Entry>) -> Result<(u32, u32, u32), Fail> {
-    if a.cols() != b.rows() || u64::from(a.rows()) * u64::from(b.cols()) > MOST_CELLS {
-        return Err(Fail::new("no product"));
-    }
-    let mut meter = Meter::new();
-    place_of(right(alloc, a, b, &mut meter).err().ok_or("a product")?)
+    product_is(alloc, t, alternating(alloc, 1)?, Due::Counted(cells, 8))?;
+    self_product_is(alloc, alternating(alloc, 1)?, Due::Counted(cells, 6))
 }
 
 // The rows (0, 2) and (2, 0) by the matrix of the greatest number, 1, 1 and the greatest: the first entry
@@ -228,12 +128,16 @@ fn fault_of(alloc: Global, a: &Coded<Entry>, b: &Dense<Entry>) -> Result<(u32, u
 #[test]
 fn first_entry_out_of_range(rt: HostRuntime) -> Result<(), Fail> {
     let alloc = rt.alloc();
-    let mut parts = Vec::new(alloc);
-    parts.push(part_of(alloc, Kind::Codes, &[0, 1], &[0, 1], &[0, 2, 2, 0])?)?;
-    let x = table_of(alloc, 2, 2, false, parts)?;
+    let x = table(
+        alloc,
+        Kind::Codes,
+        2,
+        false,
+        &[0, 1],
+        &[(&[0, 1], &[0, 2, 2, 0])],
+    )?;
     let b = matrix(alloc, 2, 2, &[GREATEST, 1, 1, GREATEST])?;
-    assert_eq!(rt; fault_of(alloc, &x, &b)?, (0, 1, 2));
-    Ok(())
+    right_is(alloc, x, b, Due::Fault(1, 2))
 }
 
 // The greatest number twice, and then less it: the sum is in range, and no partial sum is tested.
@@ -241,8 +145,13 @@ fn first_entry_out_of_range(rt: HostRuntime) -> Result<(), Fail> {
 fn partial_sums_out_of_range(rt: HostRuntime) -> Result<(), Fail> {
     let alloc = rt.alloc();
     let ones = matrix(alloc, 1, 3, &[1, 1, -1])?;
-    let mut parts = Vec::new(alloc);
-    parts.push(part_of(alloc, Kind::Plain, &[0], &[0, 0, 0], &[GREATEST])?)?;
-    let x = table_of(alloc, 3, 1, false, parts)?;
-    is(&rt, alloc, left_of(alloc, &ones, &x)?, &[GREATEST], 3)
+    let x = table(
+        alloc,
+        Kind::Plain,
+        1,
+        false,
+        &[0, 0, 0],
+        &[(&[0], &[GREATEST])],
+    )?;
+    left_is(alloc, ones, x, Due::Counted(&[GREATEST], 3))
 }

@@ -2,8 +2,8 @@ use Rattle.std.proofs.Common.{◌≡◌, ◌<◌, ◌+◌, ◌-◌, ◌*◌, ℕ
 use Rattle.std.proofs.lemmas.Bool.{eqb-true, eqb-false}
 use Rattle.cla_layout.specs.Layouts.{IsWhole}
 use Rattle.cla_coded.specs.Parts.{parts_of}
-use Rattle.cla_prod.specs.Lines.{base_for, copied_in, lines_in}
-use Rattle.cla_prod.proofs.LinesRead.{IsColumn, line_length, line_size, line_is, copied_line, kept_items, lines_long}
+use Rattle.cla_prod.specs.Lines.{base_for, copied_in, line_item, lines_in}
+use Rattle.cla_prod.proofs.LinesRead.{IsColumn, line_length, line_size, items_are, copied_line, kept_items, lines_long}
 use Rattle.cla_prod.proofs.lines.times_line_of.Goals as goal
 
 pub times_line-requires-clause-whole : goal.times_line-requires-clause-whole
@@ -38,8 +38,9 @@ returns-then-is_empty-clause-product g c i lt =
     sym c.requires.column ∙ eqb-true _ _ (sym c.is_empty.ensures ∙ c.if-is_empty.true) in
     let there : l < lines_in lines.order m = omega (arith, c.requires.line, c.requires.lines.count) in
     c.times_line.ensures.product i (rw c.requires.product lt)
-    ∙ line_is value parts lines m (take n (drop (l * lines.inner) cells)) l i read
-    (λ k item. kept_items value lines.order m cells l n lines.inner k c.cells-cells.ensures.cells c.cells-cells.ensures.shape.a_row
+    ∙ items_are value parts lines (line_item lines.order m l) (take n (drop (l * lines.inner) cells)) i read
+    (λ k item. kept_items value lines.order m cells l n lines.inner k c.cells-cells.ensures.cells
+    c.cells-cells.ensures.shape.a_row
     none there c.requires.lines.inner (omega (arith, item, line_size l lines.inner)))
 
 pub returns-else-is_empty-clause-product : goal.returns-else-is_empty-clause-product
@@ -56,5 +57,5 @@ returns-else-is_empty-clause-product g c i lt =
     let read : length column ≡ lines.inner =
     c.copy_column.auto.column ∙ c.requires.column ∙ is.long ∙ sym is.inner ∙ sym c.requires.lines.inner in
     c.times_line-else-is_empty.ensures.product i (rw c.requires.product lt)
-    ∙ line_is value parts lines m column l i read
+    ∙ items_are value parts lines (line_item lines.order m l) column i read
     (λ k item. c.copy_column.ensures k (omega (arith, item, c.requires.lines.inner, is.inner)) ∙ sym (is.items l k))

@@ -1,4 +1,5 @@
-use Rattle.std.proofs.Common.{◌≡◌, ◌<◌, ◌≤◌, ◌+◌, ◌*ℤ◌, ◌+ℤ◌, ℤ, pos, suc, length, map, ap, subst, sym, ◌∙◌, arith, rules}
+use Rattle.std.proofs.Common.{◌≡◌, ◌<◌, ◌≤◌, ◌+◌, ◌*ℤ◌, ◌+ℤ◌, ℤ, pos, suc, length, map, ap, subst, sym, ◌∙◌, arith}
+use Rattle.std.proofs.Common.{rules}
 use Rattle.std.specs.Int.{w128}
 use Rattle.std.proofs.lemmas.List.{get_or-map, get_or_default}
 use Rattle.std.specs.Int.RustNames.{unsigned_abs, FitsSigned}

@@ -23,7 +23,8 @@ numbers_of-requires-clause-shape g c =
     let shape = c.cells.ensures.shape in
     let some = some_items g.N.Number.BITS lines.turned lines.outer lines.inner
     (parts_of g.G.Group.codes g.G.Group.dictionary c.args.parts.now) c.requires.lines.whole in
-    let a_line : 1 ≤ lines.count = rw c.requires.lines.count (some_lines lines.order c.args.m.now shape.a_row shape.a_col) in
+    let a_line : 1 ≤ lines.count =
+    rw c.requires.lines.count (some_lines lines.order c.args.m.now shape.a_row shape.a_col) in
     let len : c.in-Ok-from_elem-2.exact.len ≡ lines.count * lines.outer = c.in-Ok-from_elem-2.ensures.len in
     rw (c.shape-rows.ensures.rows, c.shape-rows.ensures.cols)
     (lines_shape lines lines.order c.deref.result.now a_line some.0 c.requires.lines.few (c.deref.ensures.len ∙ len))
@@ -34,7 +35,8 @@ numbers_of-requires-clause-numbers g c =
     let shape = c.cells.ensures.shape in
     let some = some_items g.N.Number.BITS lines.turned lines.outer lines.inner
     (parts_of g.G.Group.codes g.G.Group.dictionary c.args.parts.now) c.requires.lines.whole in
-    let a_line : 1 ≤ lines.count = rw c.requires.lines.count (some_lines lines.order c.args.m.now shape.a_row shape.a_col) in
+    let a_line : 1 ≤ lines.count =
+    rw c.requires.lines.count (some_lines lines.order c.args.m.now shape.a_row shape.a_col) in
     let len : c.in-Ok-from_elem-3.numbers.len ≡ lines.count * lines.outer = c.in-Ok-from_elem-3.ensures.len in
     rw (c.shape-rows.ensures.rows, c.shape-rows.ensures.cols)
     ((lines_shape lines lines.order c.deref_mut-4.result.now a_line some.0 c.requires.lines.few
@@ -46,7 +48,8 @@ new-requires g c =
     let shape = c.cells.ensures.shape in
     let some = some_items g.N.Number.BITS lines.turned lines.outer lines.inner
     (parts_of g.G.Group.codes g.G.Group.dictionary c.args.parts.now) c.requires.lines.whole in
-    let a_line : 1 ≤ lines.count = rw c.requires.lines.count (some_lines lines.order c.args.m.now shape.a_row shape.a_col) in
+    let a_line : 1 ≤ lines.count =
+    rw c.requires.lines.count (some_lines lines.order c.args.m.now shape.a_row shape.a_col) in
     let parts = parts_of g.G.Group.codes g.G.Group.dictionary c.args.parts.now in
     let numbers = c.numbers_of.new.numbers in
     let old = c.in-Ok-from_elem-3.numbers in
@@ -65,7 +68,8 @@ returns-in-Ok-numbers_of-clause-product g c =
     let shape = c.cells.ensures.shape in
     let some = some_items g.N.Number.BITS lines.turned lines.outer lines.inner
     (parts_of g.G.Group.codes g.G.Group.dictionary c.args.parts.now) c.requires.lines.whole in
-    let a_line : 1 ≤ lines.count = rw c.requires.lines.count (some_lines lines.order c.args.m.now shape.a_row shape.a_col) in
+    let a_line : 1 ≤ lines.count =
+    rw c.requires.lines.count (some_lines lines.order c.args.m.now shape.a_row shape.a_col) in
     let order = lines.order in
     let parts = parts_of g.G.Group.codes g.G.Group.dictionary c.args.parts.now in
     let f = line_times parts lines c.args.m.now in
@@ -91,7 +95,7 @@ returns-in-Ok-numbers_of-clause-product g c =
     let shaped = lines_shape lines order exact a_line some.0 c.requires.lines.few
     (exact_kept ∙ c.in-Ok-from_elem-2.ensures.len) in
     numbers_named bits value order lines f cells numbers c.new.result r w c.shape-rows.ensures.rows
-    c.shape-rows.ensures.cols shaped.a_col c.requires.square are (
+    c.shape-rows.ensures.cols shaped.a_col c.requires.square (λ l i there _ lt. are l i there lt) (
       c.new.ensures ∙ ap (λ (xs : List g.row.N.Denot). record { rows = r; cols = w; cells = map value xs }) back,
       found.0,
       found.1,
@@ -105,7 +109,8 @@ returns-clause-product g c =
     let shape = c.cells.ensures.shape in
     let some = some_items g.N.Number.BITS lines.turned lines.outer lines.inner
     (parts_of g.G.Group.codes g.G.Group.dictionary c.args.parts.now) c.requires.lines.whole in
-    let a_line : 1 ≤ lines.count = rw c.requires.lines.count (some_lines lines.order c.args.m.now shape.a_row shape.a_col) in
+    let a_line : 1 ≤ lines.count =
+    rw c.requires.lines.count (some_lines lines.order c.args.m.now shape.a_row shape.a_col) in
     let order = lines.order in
     let parts = parts_of g.G.Group.codes g.G.Group.dictionary c.args.parts.now in
     let f = line_times parts lines c.args.m.now in
@@ -123,7 +128,7 @@ returns-clause-product g c =
     let shaped = lines_shape lines order exact a_line some.0 c.requires.lines.few
     (exact_kept ∙ c.in-Ok-from_elem-2.ensures.len) in
     fault_named bits order lines f cells c.in-Err.fault r w c.shape-rows.ensures.rows c.shape-rows.ensures.cols
-    shaped.a_col c.requires.square are
+    shaped.a_col c.requires.square (λ l i there _ lt. are l i there lt)
     c.in-Err.ensures
 
 pub returns-clause-a_line : goal.returns-clause-a_line

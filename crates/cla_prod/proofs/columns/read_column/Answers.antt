@@ -2,7 +2,7 @@ use Rattle.std.proofs.Common.{◌<◌, ℕ, List, length, map, ap, subst, sym, �
 use Rattle.std.proofs.lemmas.List.{map-set, length-map}
 use Rattle.cla_layout.specs.Groups.{code_of, cell_of, value_of}
 use Rattle.cla_prod.proofs.LinesWritten.{item_step}
-use Rattle.cla_prod.proofs.squares.read_column.Goals as goal
+use Rattle.cla_prod.proofs.columns.read_column.Goals as goal
 
 pub value-requires-clause-tuple : goal.value-requires-clause-tuple
 value-requires-clause-tuple g c =

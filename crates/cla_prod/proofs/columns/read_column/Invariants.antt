@@ -1,6 +1,6 @@
 use Rattle.std.proofs.Common.{◌≡◌, ◌<◌, ℕ, map}
 use Rattle.cla_layout.specs.Groups.{at, cell_of}
-use Rattle.cla_prod.proofs.squares.read_column.Given as goal
+use Rattle.cla_prod.proofs.columns.read_column.Given as goal
 
 -- the rows before i
 abbrev pub invariant-loop-i : goal.invariant-loop-i
