@@ -1,7 +1,15 @@
-//! Tests of packed files, worked out by hand from the format: the bytes that are written, writes that fail,
-//! files that are read, and files with their first bad fields.
+//! Tests of packed files: their bytes, worked out by hand from the format, files that are read whole, cut
+//! short, made longer and damaged, matrices that come back from their files, and writes that fail.
 #![tactic(auto)]
 
+#[cfg(test)]
+mod both_ways_tests;
+#[cfg(test)]
+mod known_files;
+#[cfg(test)]
+mod matrices;
+#[cfg(test)]
+mod packed_files;
 #[cfg(test)]
 mod read_tests;
 #[cfg(test)]

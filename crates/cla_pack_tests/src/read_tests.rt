@@ -1,183 +1,128 @@
-//! Files that are read, worked out by hand from the format, and files with their first bad fields.
+//! Files that are read whole, cut short at each byte and at each limit, made longer, and damaged.
 
-use cla_io::{Files, Input, MemFiles};
-use cla_num::{Int, Name, Number};
-use cla_pack::{FieldName, PackFault, Packed, read_packed};
+use crate::known_files::{DAMAGED, Damage, KNOWN, Place};
+use crate::matrices::{are_same, matrix};
+use crate::packed_files::{fault_of, read_bytes};
+use cla_pack::PackFault;
 use std::alloc::Global;
-use std::collections::BTreeMap;
-use std::process::Abort;
 use std::test::Fail;
 
-type Entry = Int<47>;
+// A limit above each of the files' lengths.
+const LIMIT: u64 = 1000;
 
-// What reading these bytes comes to, of which at most `limit` are taken.
-fn read(alloc: Global, bytes: &[u8], limit: u64) -> Result<Result<Packed<Entry>, PackFault>, Fail> {
-    if limit < 8 || limit > 1 << 32 {
-        return Err(Fail::new("no such limit"));
-    }
-    let mut held = BTreeMap::new(alloc);
-    held.insert(Name::of(alloc, "x")?, bytes.to_vec(alloc)?)?;
-    let mut files = MemFiles::new(held, Vec::new(alloc));
-    match files.begin_read("x") {
-        Ok(true) => (),
-        _ => return Err(Fail::new("no file to read")),
-    }
-    let mut input = Input::new(alloc, &mut files, limit)?;
-    Ok(read_packed(alloc, &mut input))
+fn bad_field(place: Place) -> PackFault {
+    let (group, field, at) = place;
+    PackFault::Field { group, field, at }
 }
 
-// A file, its columns, and its first and last cells.
-const FILES: [(&[u8], u32, i64, i64); 5] = [
-    // Plain: the value of the one row.
-    (
-        b"CLAGRP01\x01\0\0\0\x01\0\0\0\x01\0\0\0\x01\x01\0\0\0\0\0\0\0\xfe\xff\xff\xff\xff\xff\xff\xff",
-        1,
-        -2,
-        -2,
-    ),
-    // Codes: one tuple, and a byte for each row.
-    (
-        b"CLAGRP01\x03\0\0\0\x01\0\0\0\x01\0\0\0\x02\x01\0\0\0\0\0\0\0\x01\0\0\0\x05\0\0\0\0\0\0\0\0\0\0",
-        1,
-        5,
-        5,
-    ),
-    // Offsets: no tuple but the rest.
-    (
-        b"CLAGRP01\xe8\x03\0\0\x01\0\0\0\x01\0\0\0\x03\x01\0\0\0\0\0\0\0\0\0\0\0\x01",
-        1,
-        0,
-        0,
-    ),
-    // Runs: two tuples, no rest, and one run for each tuple.
-    (
-        b"CLAGRP01\xe8\x03\0\0\x01\0\0\0\x01\0\0\0\x04\x01\0\0\0\0\0\0\0\x02\0\0\0\0\
-        \x07\0\0\0\0\0\0\0\x09\0\0\0\0\0\0\0\x01\0\0\0\0\0\0\0\xf4\x01\0\0\x01\0\0\0\xf4\x01\0\0\xf4\x01\0\0",
-        1,
-        7,
-        9,
-    ),
-    // Two plain groups of one column each.
-    (
-        b"CLAGRP01\x01\0\0\0\x02\0\0\0\x02\0\0\0\x01\x01\0\0\0\0\0\0\0\x03\0\0\0\0\0\0\0\
-        \x01\x01\0\0\0\x01\0\0\0\x04\0\0\0\0\0\0\0",
-        2,
-        3,
-        4,
-    ),
-];
+// The last of the fields that begins within the first n bytes, or right behind them.
+fn field_at(fields: &[Place], n: u64) -> Option<PackFault> {
+    let mut last = None;
+    for field in fields {
+        if field.2 <= n {
+            last = Some(bad_field(*field));
+        }
+    }
+    last
+}
+
+// The first n where the file's first n bytes are not refused at the field that they cut short.
+fn wrong_cut(alloc: Global, bytes: &[u8], fields: &[Place]) -> Result<Option<usize>, Fail> {
+    for n in 0..bytes.len() {
+        if fault_of(alloc, &bytes[..n], LIMIT)? != field_at(fields, n as u64) {
+            return Ok(Some(n));
+        }
+    }
+    Ok(None)
+}
+
+// The first limit below the file's length by which the file is not too long.
+fn wrong_limit(alloc: Global, bytes: &[u8]) -> Result<Option<u64>, Fail> {
+    for limit in 8..bytes.len() as u64 {
+        if fault_of(alloc, bytes, limit)? != Some(PackFault::TooLong) {
+            return Ok(Some(limit));
+        }
+    }
+    Ok(None)
+}
+
+fn with_byte(alloc: Global, bytes: &[u8], place: usize, byte: u8) -> Result<Vec<u8>, Fail> {
+    let mut other = bytes.to_vec(alloc)?;
+    if place >= other.len() {
+        return Err(Fail::new("no byte to change"));
+    }
+    other[place] = byte;
+    Ok(other)
+}
+
+// The first change of a file by which the file is not refused as it should be.
+fn wrong_damage(alloc: Global, bytes: &[u8], damages: &[Damage]) -> Result<Option<Damage>, Fail> {
+    for damage in damages {
+        let (place, byte, field) = *damage;
+        let other = with_byte(alloc, bytes, place, byte)?;
+        if fault_of(alloc, &other, LIMIT)? != Some(bad_field(field)) {
+            return Ok(Some(*damage));
+        }
+    }
+    Ok(None)
+}
 
 #[test]
-fn files_of_each_kind(rt: HostRuntime) -> Result<(), Fail> {
-    for (bytes, cols, first, last) in FILES {
-        let packed = read(rt.alloc(), bytes, 1 << 32)?.map_err(|_| Fail::new("refused"))?;
-        let cells = packed.table.to_dense(rt.alloc())?;
-        assert_eq!(rt; packed.bytes, bytes.len() as u64);
-        assert_eq!(rt; cells.cols(), cols);
-        assert_eq!(rt; cells.cells().first().copied(), Entry::of(first));
-        assert_eq!(rt; cells.cells().last().copied(), Entry::of(last));
+fn whole_files(rt: HostRuntime) -> Result<(), Fail> {
+    for (bytes, cells, _) in KNOWN {
+        let len = bytes.len() as u64;
+        let packed = read_bytes(rt.alloc(), bytes, len)??;
+        assert_eq!(rt; packed.bytes, len);
+        let m = packed.table.to_dense(rt.alloc())?;
+        let want = matrix(rt.alloc(), m.rows(), m.cols(), cells)?;
+        assert!(rt; are_same(&m, &want));
     }
     Ok(())
 }
 
-// A file that is bad, how many of its bytes may be taken, and what is wrong with it.
-const BAD: [(&[u8], u64, PackFault); 10] = [
-    (
-        b"",
-        8,
-        PackFault::Field {
-            group: 0,
-            field: FieldName::Magic,
-            at: 0,
-        },
-    ),
-    (
-        b"CLAGRP01\0\0\x01\0\0\0\x01\0\x01\0\0\0",
-        64,
-        PackFault::TooLarge {
-            rows: 65536,
-            cols: 65536,
-        },
-    ),
-    // No such kind.
-    (
-        b"CLAGRP01\x01\0\0\0\x01\0\0\0\x01\0\0\0\x05",
-        64,
-        PackFault::Field {
-            group: 1,
-            field: FieldName::Kind,
-            at: 20,
-        },
-    ),
-    // A width that leaves no column for the second group.
-    (
-        b"CLAGRP01\x01\0\0\0\x02\0\0\0\x02\0\0\0\x01\x02\0\0\0",
-        64,
-        PackFault::Field {
-            group: 1,
-            field: FieldName::Width,
-            at: 21,
-        },
-    ),
-    // A column again.
-    (
-        b"CLAGRP01\x01\0\0\0\x02\0\0\0\x02\0\0\0\x01\x01\0\0\0\0\0\0\0\x03\0\0\0\0\0\0\0\x01\x01\0\0\0\0\0\0\0",
-        64,
-        PackFault::Field {
-            group: 2,
-            field: FieldName::Column,
-            at: 42,
-        },
-    ),
-    // A value of 2 to the 47.
-    (
-        b"CLAGRP01\x01\0\0\0\x01\0\0\0\x01\0\0\0\x01\x01\0\0\0\0\0\0\0\0\0\0\0\0\x80\0\0",
-        64,
-        PackFault::Field {
-            group: 1,
-            field: FieldName::Value,
-            at: 29,
-        },
-    ),
-    // A tuple with no row in any segment, and one that names a row again.
-    (
-        b"CLAGRP01\x03\0\0\0\x01\0\0\0\x01\0\0\0\x03\x01\0\0\0\0\0\0\0\x01\0\0\0\x01\x05\0\0\0\0\0\0\0\0\0",
-        64,
-        PackFault::Field {
-            group: 1,
-            field: FieldName::Count,
-            at: 42,
-        },
-    ),
-    (
-        b"CLAGRP01\x03\0\0\0\x01\0\0\0\x01\0\0\0\x03\x01\0\0\0\0\0\0\0\x01\0\0\0\x01\x05\0\0\0\0\0\0\0\x02\0\0\0\0\0",
-        64,
-        PackFault::Field {
-            group: 1,
-            field: FieldName::Offset,
-            at: 46,
-        },
-    ),
-    // A byte behind the last group, within the limit and past it.
-    (
-        b"CLAGRP01\x01\0\0\0\x01\0\0\0\x01\0\0\0\x01\x01\0\0\0\0\0\0\0\x05\0\0\0\0\0\0\0\0",
-        64,
-        PackFault::Trailing { at: 37 },
-    ),
-    (
-        b"CLAGRP01\x01\0\0\0\x01\0\0\0\x01\0\0\0\x01\x01\0\0\0\0\0\0\0\x05\0\0\0\0\0\0\0\0",
-        37,
-        PackFault::TooLong,
-    ),
-];
+#[test]
+fn files_cut_short(rt: HostRuntime) -> Result<(), Fail> {
+    for (bytes, _, fields) in KNOWN {
+        assert_eq!(rt; wrong_cut(rt.alloc(), bytes, fields)?, None);
+        assert_eq!(rt; wrong_limit(rt.alloc(), bytes)?, None);
+    }
+    Ok(())
+}
 
 #[test]
-fn first_bad_fields(rt: HostRuntime) -> Result<(), Fail> {
-    for (bytes, limit, fault) in BAD {
-        match read(rt.alloc(), bytes, limit)? {
-            Ok(_) => return Err(Fail::new("a bad file was read")),
-            Err(found) => assert_eq!(rt; found, fault),
-        }
+fn a_byte_behind_the_end(rt: HostRuntime) -> Result<(), Fail> {
+    for (bytes, _, _) in KNOWN {
+        let at = bytes.len() as u64;
+        let mut longer = bytes.to_vec(rt.alloc())?;
+        longer.push(7)?;
+        let trailing = Some(PackFault::Trailing { at });
+        assert_eq!(rt; fault_of(rt.alloc(), &longer, LIMIT)?, trailing);
+        assert_eq!(rt;
+            fault_of(rt.alloc(), &longer, at)?,
+            Some(PackFault::TooLong)
+        );
+    }
+    Ok(())
+}
+
+#[test]
+fn damaged_files(rt: HostRuntime) -> Result<(), Fail> {
+    for ((bytes, _, _), damages) in KNOWN.iter().zip(DAMAGED) {
+        assert_eq!(rt; wrong_damage(rt.alloc(), bytes, damages)?, None);
+    }
+    Ok(())
+}
+
+// `TooLarge` stands behind good columns, before the groups.
+#[test]
+fn too_many_cells(rt: HostRuntime) -> Result<(), Fail> {
+    let (rows, cols) = (67_108_865, 1);
+    for bytes in [
+        b"CLAGRP01\x01\0\0\x04\x01\0\0\0".as_slice(),
+        b"CLAGRP01\x01\0\0\x04\x01\0\0\0\0\0\0\0",
+    ] {
+        let fault = fault_of(rt.alloc(), bytes, LIMIT)?;
+        assert_eq!(rt; fault, Some(PackFault::TooLarge { rows, cols }));
     }
     Ok(())
 }
