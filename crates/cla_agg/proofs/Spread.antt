@@ -1,9 +1,9 @@
 -- Sums and extremes of rows, over the parts.
-use Rattle.std.proofs.Common.{◌≡◌, ℕ, ℤ, pos, ◌+◌, ◌*◌, ◌^◌, ◌<◌, ◌≤◌, List, length, take, set, ap, subst, sym, ◌∙◌}
-use Rattle.std.proofs.Common.{arith, inl, inr}
+use Rattle.std.proofs.Common.{◌≡◌, ℕ, ℤ, pos, ◌+◌, ◌*◌, ◌^◌, ◌<◌, ◌≤◌, List, length, map, take, set, get_or, ap, subst}
+use Rattle.std.proofs.Common.{sym, ◌∙◌, arith, inl, inr}
 use Rattle.std.proofs.Math.Nat.{mul-le-mul_right}
 use Rattle.std.proofs.lemmas.Bool.{ltb-true}
-use Rattle.std.proofs.lemmas.List.{length-take-le, get_or-set_same, get_or-set_other}
+use Rattle.std.proofs.lemmas.List.{length-take-le, get_or-map, get_or-set_same, get_or-set_other}
 use Rattle.std.specs.Int.RustNames.{unsigned_abs}
 use Rattle.cla_spec.specs.Numbers.{InRange, sum_to}
 use Rattle.cla_spec.proofs.Sums.{sum_to-size}
@@ -14,7 +14,6 @@ use Rattle.cla_layout.specs.GroupLaws.{IsExtreme}
 use Rattle.cla_layout.specs.Layouts.{LayoutPart, Layout, IsPart, IsWhole, column_at, part_at, index_of, entry_in}
 use Rattle.cla_layout.specs.Laws.{sum_over}
 use Rattle.cla_layout.proofs.Bounds.{width_few}
-use Rattle.cla_layout.proofs.Cells.{tuples_few}
 use Rattle.cla_layout.proofs.Matrices.{entry_small}
 use Rattle.cla_layout.proofs.PartSums.{row_by_parts}
 use Rattle.cla_layout.proofs.Wholes.{own_column, own_column_within, some_part, entry_of_part, same_width}
@@ -181,9 +180,33 @@ group_row_first Before bits width codes dictionary m q part i v laws read first 
     (subst (λ (w : ℕ). IsExtreme Before (cell_of (codes part.group) (dictionary part.group) i) w v)
     (same_width _ _ _ _ _ laws read.is.group) first)
 
--- a place for each tuple, of one for each row
-pub tuple_places : (bits width : ℕ) (codes : List ℕ) (tuples : List (List ℤ)) → IsGroup bits width codes tuples →
-    (places : List ℤ) (n : ℕ)
-    → n ≡ length tuples → length places ≡ length codes → length (take n places) ≡ n
-tuple_places bits width codes tuples is places n count rows =
-    length-take-le n places (omega (arith, tuples_few bits width codes tuples is, count, rows))
+-- places for tuples, of as many as they are or more
+pub places_taken : {N : Type 0} (places : List N) (n tuples : ℕ) → n ≡ tuples → tuples ≤ length places →
+    length (take n places) ≡ n
+places_taken places n tuples count room = length-take-le n places (omega (arith, count, room))
+
+-- the value of a number that is read
+pub value_read : {N : Type 0} (value : N → ℤ) (numbers : List N) (p : ℕ) (number : N) → p < length numbers →
+    number ≡ get_or numbers p number
+    → value number ≡ at (map value numbers) p
+value_read value numbers p number there is = ap value is ∙ sym (get_or-map value numbers p number (pos 0) there)
+
+-- the rows before row i are joined with the items of their codes, and the others are as they were
+pub record AreJoinedBefore (join : ℤ → ℤ → ℤ) (i : ℕ) (codes : List ℕ) (items old new : List ℤ) : Type 0 where
+  pub done : (r : ℕ) → r < i → at new r ≡ join (at old r) (at items (code_of codes r))
+  pub left : (r : ℕ) → i ≤ r → at new r ≡ at old r
+
+pub joined_more : (join : ℤ → ℤ → ℤ) (i : ℕ) (codes : List ℕ) (items old now : List ℤ) (v : ℤ) → i < length now →
+    v ≡ join (at now i) (at items (code_of codes i)) → AreJoinedBefore join i codes items old now
+    → AreJoinedBefore join (i + 1) codes items old (set now i v)
+joined_more join i codes items old now v there is before = record {
+  done = λ r lt. elim (last_or_before i r lt) [
+    | inl last ↦ subst (λ (s : ℕ). at (set now i v) s ≡ join (at old s) (at items (code_of codes s))) (sym last)
+        (get_or-set_same now i v (pos 0) there ∙ is
+        ∙ ap (λ (z : ℤ). join z (at items (code_of codes i))) (before.left i (omega arith)))
+    | inr earlier ↦ (let other : r ≡ i → ⊥ = λ same. omega (arith, same, earlier) in
+        get_or-set_other now i r v (pos 0) other ∙ before.done r earlier)
+  ];
+  left = λ r le. (let other : r ≡ i → ⊥ = λ same. omega (arith, same, le) in
+      get_or-set_other now i r v (pos 0) other ∙ before.left r (omega (arith, le)));
+}

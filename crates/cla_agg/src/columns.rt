@@ -1,6 +1,6 @@
 //! Sums and extremes of the columns of a base: by tuples, and how often each occurs.
 
-ghost use Rattle.std.specs.Prelude.{◌≡◌, ◌<◌, ◌+◌, ◌*◌, ◌+ℤ◌, ℕ, pos, false, length};
+ghost use Rattle.std.specs.Prelude.{◌≡◌, ◌<◌, ◌+◌, ◌*◌, ◌+ℤ◌, ℕ, pos, false, length, map};
 ghost use Rattle.cla_num.specs.Bits.{IsSupported};
 ghost use Rattle.cla_num.specs.Counts.{AreBelow, kernel_bound, step_bound};
 ghost use Rattle.cla_layout.specs.Groups.{at};
@@ -80,11 +80,11 @@ fn add_tuple<N: Number, G: Group<N>>(part: &Part<G>, k: u32, into: &mut [Wide], 
 /// Puts the extreme of each column of the base at its place.
 pub(crate) fn choose_in_columns<N: Number, G: Group<N>, O: Order<N>>(
     m: &Table<N, G>,
-    into: &mut [Wide],
+    into: &mut [N],
 )
     requires columns { length into.old ≡ m.now.cols }
     ensures firsts { let entry = entry_in (parts_of G.codes G.dictionary m.now.parts) in
-        (j : ℕ) → j < m.now.cols → IsExtreme O.before (λ i. entry i j) m.now.rows (at into.new j) }
+        (j : ℕ) → j < m.now.cols → IsExtreme O.before (λ i. entry i j) m.now.rows (at (map N.value into.new) j) }
     ensures whole { IsWhole N.BITS (layout_of G.codes G.dictionary m.now) }
 {
     for part in m.parts() {
@@ -93,11 +93,12 @@ pub(crate) fn choose_in_columns<N: Number, G: Group<N>, O: Order<N>>(
 }
 
 // Puts the extremes of a part's columns at their places, tuple by tuple.
-fn choose_in_part<N: Number, G: Group<N>, O: Order<N>>(part: &Part<G>, into: &mut [Wide])
+fn choose_in_part<N: Number, G: Group<N>, O: Order<N>>(part: &Part<G>, into: &mut [N])
     requires part { IsPart N.BITS (length (G.codes part.now.group)) (part_of G.codes G.dictionary part.now) }
     requires within { let columns = part.now.columns.items in
         (c : ℕ) → c < length columns → column_at columns c < length into.old }
-    ensures { ArePlaced (IsExtreme O.before) (part_of G.codes G.dictionary part.now) into.old into.new }
+    ensures { ArePlaced (IsExtreme O.before) (part_of G.codes G.dictionary part.now)
+        (map N.value into.old) (map N.value into.new) }
 {
     place_first(part, into);
     for k in 1..part.group.tuples() {
@@ -106,31 +107,32 @@ fn choose_in_part<N: Number, G: Group<N>, O: Order<N>>(part: &Part<G>, into: &mu
 }
 
 // Puts the first tuple's values at the places of their columns.
-fn place_first<N: Number, G: Group<N>>(part: &Part<G>, into: &mut [Wide])
+fn place_first<N: Number, G: Group<N>>(part: &Part<G>, into: &mut [N])
     requires part { IsPart N.BITS (length (G.codes part.now.group)) (part_of G.codes G.dictionary part.now) }
     requires within { let columns = part.now.columns.items in
         (c : ℕ) → c < length columns → column_at columns c < length into.old }
-    ensures { let p = part_of G.codes G.dictionary part.now in AreMade (IsFirstValue p) p into.old into.new }
+    ensures { let p = part_of G.codes G.dictionary part.now in
+        AreMade (IsFirstValue p) p (map N.value into.old) (map N.value into.new) }
 {
     for c in 0..part.group.width() {
-        into[part.columns[c as usize] as usize] = part.group.value(0, c).wide();
+        into[part.columns[c as usize] as usize] = part.group.value(0, c);
     }
 }
 
 // Joins a tuple's values with the extremes of the tuples before it.
-fn choose_in_tuple<N: Number, G: Group<N>, O: Order<N>>(part: &Part<G>, k: u32, into: &mut [Wide])
+fn choose_in_tuple<N: Number, G: Group<N>, O: Order<N>>(part: &Part<G>, k: u32, into: &mut [N])
     requires part { IsPart N.BITS (length (G.codes part.now.group)) (part_of G.codes G.dictionary part.now) }
     requires tuple { k < length (G.dictionary part.now.group) }
     requires within { let columns = part.now.columns.items in
         (c : ℕ) → c < length columns → column_at columns c < length into.old }
     requires so_far { let columns = part.now.columns.items in
         let part = part_of G.codes G.dictionary part.now in
-        (c : ℕ) → c < length columns → IsChosen O.before part k c (at into.old (column_at columns c)) }
+        (c : ℕ) → c < length columns → IsChosen O.before part k c (at (map N.value into.old) (column_at columns c)) }
     ensures { let p = part_of G.codes G.dictionary part.now in
-        AreMade (IsChosen O.before p (k + 1)) p into.old into.new }
+        AreMade (IsChosen O.before p (k + 1)) p (map N.value into.old) (map N.value into.new) }
 {
     for c in 0..part.group.width() {
         let place = part.columns[c as usize] as usize;
-        into[place] = O::joined(into[place], part.group.value(k, c).wide());
+        into[place] = O::chosen(into[place], part.group.value(k, c));
     }
 }

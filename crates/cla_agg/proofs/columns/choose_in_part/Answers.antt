@@ -1,4 +1,4 @@
-use Rattle.std.proofs.Common.{◌≡◌, ℕ, length, subst, ◌∙◌, arith}
+use Rattle.std.proofs.Common.{◌≡◌, ℕ, length, map, subst, ◌∙◌, arith}
 use Rattle.cla_layout.specs.Groups.{at, value_of}
 use Rattle.cla_layout.specs.GroupLaws.{IsExtreme}
 use Rattle.cla_layout.specs.Layouts.{column_at}
@@ -37,7 +37,7 @@ returns g c =
     omega (arith, c.loop-k-test.false, c.tuples-k-end.ensures, c.loop-k.auto.k-end, some) in
     record {
       made = λ d there. (let f = λ (l : ℕ). value_of tuples l d in
-          let v = at c.loop-k.into (column_at columns d) in
+          let v = at (map g.N.Number.value c.loop-k.into) (column_at columns d) in
           (extremes_regroup (length tuples) codes g.O.Order.before f v (codes_of_group _ _ _ _ laws)).1
           (subst (λ (n : ℕ). IsExtreme g.O.Order.before f n v) all (c.loop-k.invariant.made d there)));
       kept = c.loop-k.invariant.kept;

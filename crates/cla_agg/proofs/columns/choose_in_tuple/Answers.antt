@@ -1,5 +1,5 @@
-use Rattle.std.proofs.Common.{◌≡◌, ◌<◌, ◌+◌, ℕ, pos, length, ap, subst, sym, ◌∙◌, refl, arith, rules}
-use Rattle.std.proofs.lemmas.List.{get_or_default}
+use Rattle.std.proofs.Common.{◌≡◌, ◌<◌, ◌+◌, ℕ, pos, length, map, ap, subst, sym, ◌∙◌, refl, arith, rules}
+use Rattle.std.proofs.lemmas.List.{map-set, length-map}
 use Rattle.std.specs.Vec.{vec_len}
 use Rattle.cla_layout.specs.Groups.{at, value_of}
 use Rattle.cla_layout.specs.GroupLaws.{IsExtreme}
@@ -10,6 +10,7 @@ use Rattle.cla_coded.specs.Parts.{part_of}
 use Rattle.cla_agg.specs.Lines.{IsChosen}
 use Rattle.cla_agg.proofs.Extremes.{extreme_more}
 use Rattle.cla_agg.proofs.Placed.{IsPlaceOf, made_here}
+use Rattle.cla_agg.proofs.Spread.{value_read}
 use Rattle.cla_agg.proofs.columns.choose_in_tuple.Goals as goal
 
 pub loop-c-init : goal.loop-c-init
@@ -56,23 +57,27 @@ loop-c-preserved g c =
     let col : c.loop-c.c < length part.columns = omega (arith, c.loop-c-test.true, c.width-c-end.ensures, wide) in
     let column : c.index.result.now ≡ column_at part.columns c.loop-c.c =
     column_read part.columns c.loop-c.c c.index.result.now c.index.ensures col in
-    let within : c.index.result.now < length c.loop-c.into =
+    let value = g.N.Number.value in
+    let now = map value c.loop-c.into in
+    let there : c.index.result.now < length c.loop-c.into =
     rw column (omega (arith, c.requires.within c.loop-c.c col, c.loop-c.auto.into)) in
-    let place : IsPlaceOf part c.loop-c.into c.loop-c.c c.index.result.now =
+    let within : c.index.result.now < length now = omega (arith, there, length-map c.loop-c.into value) in
+    let place : IsPlaceOf part now c.loop-c.c c.index.result.now =
     record { rising = c.requires.part.rising; there = col; is = column; within = within } in
     let f = λ (l : ℕ). value_of part.tuples l c.loop-c.c in
-    let held : c.index-into-place.result ≡ at c.loop-c.into (column_at part.columns c.loop-c.c) =
-    c.index-into-place.is ∙ get_or_default c.loop-c.into c.index.result.now c.index-into-place.result (pos 0) within
-    ∙ ap (at c.loop-c.into) column in
-    let so_far : IsExtreme g.O.Order.before f c.args.k c.index-into-place.result =
+    let held : value c.index-into-place.result ≡ at now (column_at part.columns c.loop-c.c) =
+    value_read value c.loop-c.into c.index.result.now c.index-into-place.result there c.index-into-place.is
+    ∙ ap (at now) column in
+    let so_far : IsExtreme g.O.Order.before f c.args.k (value c.index-into-place.result) =
     subst (IsExtreme g.O.Order.before f c.args.k) (sym held) (c.loop-c.invariant.left c.loop-c.c (omega arith) col) in
-    let chosen : IsExtreme g.O.Order.before f (c.args.k + 1) c.joined.result =
-    subst (IsExtreme g.O.Order.before f (c.args.k + 1)) (sym c.joined.ensures)
-    (extreme_more g.O.Order.before g.O.Order.choice g.met.O.Order.laws f c.args.k c.index-into-place.result
-    c.wide.result
-    (c.wide.ensures ∙ c.value.ensures) so_far) in
-    made_here (IsChosen g.O.Order.before part (c.args.k + 1)) (IsChosen g.O.Order.before part c.args.k)
-    c.loop-c.c part c.args.into.now c.loop-c.into c.index.result.now c.joined.result place chosen c.loop-c.invariant
+    let chosen : IsExtreme g.O.Order.before f (c.args.k + 1) (value c.chosen.result) =
+    subst (IsExtreme g.O.Order.before f (c.args.k + 1)) (sym c.chosen.ensures)
+    (extreme_more g.O.Order.before g.O.Order.choice g.met.O.Order.laws f c.args.k
+    (value c.index-into-place.result) (value c.value.result) c.value.ensures so_far) in
+    rw (map-set value c.loop-c.into c.index.result.now c.chosen.result)
+    (made_here (IsChosen g.O.Order.before part (c.args.k + 1)) (IsChosen g.O.Order.before part c.args.k)
+    c.loop-c.c part (map value c.args.into.now) now c.index.result.now (value c.chosen.result) place chosen
+    c.loop-c.invariant)
 
 pub returns : goal.returns
 returns g c =

@@ -1,4 +1,4 @@
-use Rattle.std.proofs.Common.{◌+◌}
+use Rattle.std.proofs.Common.{◌+◌, map}
 use Rattle.cla_coded.specs.Parts.{part_of}
 use Rattle.cla_agg.specs.Lines.{IsChosen}
 use Rattle.cla_agg.proofs.Placed.{AreMadeBefore}
@@ -9,4 +9,5 @@ abbrev pub invariant-loop-c : goal.invariant-loop-c
 invariant-loop-c g l =
     AreMadeBefore (IsChosen g.O.Order.before (part_of g.G.Group.codes g.G.Group.dictionary l.part) (l.k + 1))
     (IsChosen g.O.Order.before (part_of g.G.Group.codes g.G.Group.dictionary l.part) l.k) l.c
-    (part_of g.G.Group.codes g.G.Group.dictionary l.part) l.fn.into l.into
+    (part_of g.G.Group.codes g.G.Group.dictionary l.part) (map g.N.Number.value l.fn.into)
+    (map g.N.Number.value l.into)
