@@ -1,5 +1,6 @@
 -- Groups that are being made: their tuples and their best kinds are those of their columns, counted from the matrix.
-use Rattle.std.specs.Prelude.{◌≡◌, ℕ, ◌+◌, ◌-◌, ◌<◌, ◌≤◌, ◌^◌, All, List, [], ◌∷◌, ◌++◌, length, map, nat_lt, if◌then◌else◌}
+use Rattle.std.specs.Prelude.{◌≡◌, ℕ, ◌+◌, ◌-◌, ◌<◌, ◌≤◌, ◌^◌, All, List, [], ◌∷◌, ◌++◌, length, map, nat_lt}
+use Rattle.std.specs.Prelude.{if◌then◌else◌}
 use Rattle.cla_spec.specs.Matrix.{Matrix}
 use Rattle.cla_grouping.specs.Tuples.{tuples_in, joined}
 use Rattle.cla_grouping.specs.Sizes.{figures_of, best_of, best_bytes, IsLeast}

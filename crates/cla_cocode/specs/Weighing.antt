@@ -1,5 +1,6 @@
 -- What the union of two groups of columns would be, by the pairs of their codes.
-use Rattle.std.specs.Prelude.{◌≡◌, ℕ, ◌+◌, ◌-◌, ◌<◌, ◌≤◌, List, length, Bool, not, ◌&&◌, ◌||◌, ◌==◌, nat_lt, max, Option, Some, None, if◌then◌else◌}
+use Rattle.std.specs.Prelude.{◌≡◌, ℕ, ◌+◌, ◌-◌, ◌<◌, ◌≤◌, List, length, Bool, not, ◌&&◌, ◌||◌, ◌==◌, nat_lt, max}
+use Rattle.std.specs.Prelude.{Option, Some, None, if◌then◌else◌}
 use Rattle.cla_layout.specs.Groups.{code_of}
 use Rattle.cla_layout.specs.Listed.{is_rest, rows_where}
 use Rattle.cla_grouping.specs.Numbering.{same_pair, first_rows_by}

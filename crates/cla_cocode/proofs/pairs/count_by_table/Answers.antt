@@ -1,6 +1,7 @@
 use Rattle.std.proofs.Common.{◌<◌, length, ℕ, get_or, ap, ◌∙◌, arith}
 use Rattle.cla_numbering.specs.Tables.{place_at}
-use Rattle.cla_numbering.proofs.TableLemmas.{seen_next, seen-most, numbered_whole, places-drop, places-none, next-le, length-table_put, place_within, firsts-of_places}
+use Rattle.cla_numbering.proofs.TableLemmas.{seen_next, seen-most, numbered_whole, places-drop, places-none, next-le}
+use Rattle.cla_numbering.proofs.TableLemmas.{length-table_put, place_within, firsts-of_places}
 use Rattle.cla_cocode.proofs.pairs.count_by_table.Goals as goal
 
 pub returns-then-distinct-most : goal.returns-then-distinct-most
@@ -11,12 +12,15 @@ returns-then-distinct-most c =
     let p = place_at a b c.args.wide i in
     let here = c.loop-i-test.true in
     let rows = c.requires.rows in
-    let inside = place_within (get_or a i 0) (get_or b i 0) c.args.tall c.args.wide (c.requires.first i here) (c.requires.second i (omega (arith, rows, here))) in
+    let inside = place_within (get_or a i 0) (get_or b i 0) c.args.tall c.args.wide (c.requires.first i here)
+    (c.requires.second i (omega (arith, rows, here))) in
     let size = c.loop-i.invariant.size in
     let few = c.loop-i.invariant.few in
     let most = c.requires.few in
-    let s = seen_next c.loop-i.table.items c.number_place.new.table.items c.loop-i.distinct c.number_place.new.next p _ _ _
-    c.loop-i.invariant.numbered (places-drop a b c.args.wide (length a) i here) (omega (arith, inside, size)) (omega (arith, few, here, most))
+    let s = seen_next c.loop-i.table.items c.number_place.new.table.items c.loop-i.distinct c.number_place.new.next p _
+    _ _
+    c.loop-i.invariant.numbered (places-drop a b c.args.wide (length a) i here) (omega (arith, inside, size))
+    (omega (arith, few, here, most))
     c.number_place.ensures.table c.number_place.ensures.next in
     let more = seen-most _ _ _ _ s in
     let same = firsts-of_places a b c.args.wide (length a) (λ i h. c.requires.second i (omega (arith, rows, h))) in
@@ -30,14 +34,17 @@ loop-i-preserved c =
     let p = place_at a b c.args.wide i in
     let here = c.loop-i-test.true in
     let rows = c.requires.rows in
-    let inside = place_within (get_or a i 0) (get_or b i 0) c.args.tall c.args.wide (c.requires.first i here) (c.requires.second i (omega (arith, rows, here))) in
+    let inside = place_within (get_or a i 0) (get_or b i 0) c.args.tall c.args.wide (c.requires.first i here)
+    (c.requires.second i (omega (arith, rows, here))) in
     let size = c.loop-i.invariant.size in
     let few = c.loop-i.invariant.few in
     let most = c.requires.few in
     let step = next-le c.loop-i.table.items c.loop-i.distinct p in
     record {
-      numbered = seen_next c.loop-i.table.items c.number_place.new.table.items c.loop-i.distinct c.number_place.new.next p _ _ _
-          c.loop-i.invariant.numbered (places-drop a b c.args.wide (length a) i here) (omega (arith, inside, size)) (omega (arith, few, here, most))
+      numbered = seen_next c.loop-i.table.items c.number_place.new.table.items c.loop-i.distinct c.number_place.new.next
+          p _ _ _
+          c.loop-i.invariant.numbered (places-drop a b c.args.wide (length a) i here) (omega (arith, inside, size))
+          (omega (arith, few, here, most))
           c.number_place.ensures.table c.number_place.ensures.next;
       few = omega (arith, c.number_place.ensures.next, step, few);
       size = ap length c.number_place.ensures.table ∙ length-table_put c.loop-i.table.items c.loop-i.distinct p ∙ size;
@@ -50,5 +57,6 @@ returns c =
     let rows = c.requires.rows in
     let within = λ (i : ℕ) (h : i < length a). c.requires.second i (omega (arith, rows, h)) in
     let none = places-none a b c.args.wide (length a) c.loop-i.i (omega (arith, c.loop-i-test.false)) in
-    let whole = numbered_whole c.loop-i.table.items c.loop-i.invariant.numbered.0 c.loop-i.distinct _ _ none c.loop-i.invariant.numbered.1 in
+    let whole = numbered_whole c.loop-i.table.items c.loop-i.invariant.numbered.0 c.loop-i.distinct _ _ none
+    c.loop-i.invariant.numbered.1 in
     whole.1 ∙ firsts-of_places a b c.args.wide (length a) within
