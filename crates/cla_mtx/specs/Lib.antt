@@ -1,5 +1,4 @@
 pub mod Reading
-pub mod Writing
 pub mod Texts
 pub mod Cells
 pub mod Sums

@@ -3,12 +3,11 @@
 ghost use Rattle.std.specs.Prelude.{◌≡◌, ◌≤◌, ◌<◌, ◌++◌, ◌∷◌, ◌+◌, ◌^◌, [], pos, length};
 ghost use Rattle.cla_spec.specs.Numbers.{decimal_of};
 ghost use Rattle.cla_io.specs.Counts.{HasCause};
-ghost use Rattle.cla_io.specs.Sinks.{PutsAll};
+ghost use Rattle.cla_io.specs.Sinks.{PutsAll, HasWriteCause};
 ghost use Rattle.cla_market.specs.Texts.{matrix_market_text, number_line, nonzeros, is_zero_value};
 ghost use Rattle.cla_print.specs.Parting.{Parts};
 ghost use Rattle.cla_print.specs.Pieces.{pieces};
 ghost use Rattle.cla_mtx.specs.Texts.{column_text, cell_text, count_in_column};
-ghost use Rattle.cla_mtx.specs.Writing.{PutsText, HasWriteCause};
 
 use cla_io::{OutFault, Sink, Stop};
 use cla_num::{Dense, Number, Wide};
@@ -25,7 +24,7 @@ pub fn write_mtx<N: Number, O: Sink>(
     m: &Dense<N>,
     out: &mut O,
 ) -> Result<(), OutFault>
-    ensures puts { PutsText (matrix_market_text m.now) (O.told out.old) (O.told out.new) result }
+    ensures puts { PutsAll (matrix_market_text m.now) (O.told out.old) (O.told out.new) result }
     ensures later { O.faults out.old ≤ O.faults out.new }
     ensures steady { O.steady out.new ≡ O.steady out.old }
     ensures kept { O.kept out.old out.new }

@@ -1,4 +1,3 @@
 pub mod Outgoing
-pub mod Writing
 pub mod Listed
 pub mod Groups

@@ -2,14 +2,13 @@
 
 ghost use Rattle.std.specs.Prelude.{◌≡◌, ◌≤◌, false, length};
 ghost use Rattle.cla_io.specs.Counts.{HasCause};
-ghost use Rattle.cla_io.specs.Sinks.{PutsAll};
+ghost use Rattle.cla_io.specs.Sinks.{PutsAll, HasWriteCause};
 ghost use Rattle.cla_coded.specs.AnyGroups.{any_codes, any_dictionary};
 ghost use Rattle.cla_coded.specs.Forms.{kinds_of};
 ghost use Rattle.cla_coded.specs.Tables.{layout_of};
 ghost use Rattle.cla_packed.specs.Layouts.{encoded};
 ghost use Rattle.cla_pack_writer.specs.Groups.{HaveTheirRests};
 ghost use Rattle.cla_pack_writer.specs.Outgoing.{Sent};
-ghost use Rattle.cla_pack_writer.specs.Writing.{PutsBytes, HasWriteCause};
 
 use crate::group::put_group;
 use crate::numbers::put_number;
@@ -34,7 +33,7 @@ pub fn write_packed<N: Number, O: Sink>(
     requires upright { m.now.flipped ≡ false }
     requires rests { HaveTheirRests m.now }
     ensures puts { let bytes = encoded 8 (layout_of any_codes any_dictionary m.now) (kinds_of m.now) in
-        PutsBytes bytes (O.told out.old) (O.told out.new) result }
+        PutsAll bytes (O.told out.old) (O.told out.new) result }
     ensures later { O.faults out.old ≤ O.faults out.new }
     ensures steady { O.steady out.new ≡ O.steady out.old }
     ensures kept { O.kept out.old out.new }
