@@ -40,6 +40,7 @@ impl<N: Number> DenseTriples<N> {
         requires col { col < self.old.cols }
         ensures sum { result ≡ true → Adds self.old self.new row col (N.value v) }
         ensures in_range { result ≡ true → InRange N.BITS (entry self.old row col +ℤ N.value v) }
+        ensures refused { result ≡ false → InRange N.BITS (entry self.old row col +ℤ N.value v) → ⊥ }
         ensures same { result ≡ false → self.new ≡ self.old }
     {
         let place = self.grid.place(row, col);
