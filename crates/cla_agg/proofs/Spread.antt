@@ -1,11 +1,11 @@
 -- Sums and extremes of rows, over the parts.
-use Rattle.std.proofs.Common.{◌≡◌, ℕ, ℤ, pos, ◌+◌, ◌*◌, ◌^◌, ◌<◌, ◌≤◌, List, length, take, set, ap, subst, sym, ◌∙◌}
-use Rattle.std.proofs.Common.{arith, inl, inr}
+use Rattle.std.proofs.Common.{◌≡◌, ℕ, ℤ, pos, ◌+◌, ◌*◌, ◌^◌, ◌<◌, ◌≤◌, List, length, map, take, set, get_or, ap, subst}
+use Rattle.std.proofs.Common.{sym, ◌∙◌, arith, inl, inr}
 use Rattle.std.proofs.Math.Nat.{mul-le-mul_right}
 use Rattle.std.proofs.lemmas.Bool.{ltb-true}
-use Rattle.std.proofs.lemmas.List.{length-take-le, get_or-set_same, get_or-set_other}
+use Rattle.std.proofs.lemmas.List.{length-take-le, get_or-map, get_or-set_same, get_or-set_other}
 use Rattle.std.specs.Int.RustNames.{unsigned_abs}
-use Rattle.cla_spec.specs.Numbers.{InRange, sum_to}
+use Rattle.cla_spec.specs.Numbers.{sum_to}
 use Rattle.cla_spec.proofs.Sums.{sum_to-size}
 use Rattle.cla_num.specs.Bits.{IsSupported, value_bound}
 use Rattle.cla_num.proofs.Sizes.{value_size}
@@ -14,8 +14,6 @@ use Rattle.cla_layout.specs.GroupLaws.{IsExtreme}
 use Rattle.cla_layout.specs.Layouts.{LayoutPart, Layout, IsPart, IsWhole, column_at, part_at, index_of, entry_in}
 use Rattle.cla_layout.specs.Laws.{sum_over}
 use Rattle.cla_layout.proofs.Bounds.{width_few}
-use Rattle.cla_layout.proofs.Cells.{tuples_few}
-use Rattle.cla_layout.proofs.Matrices.{entry_small}
 use Rattle.cla_layout.proofs.PartSums.{row_by_parts}
 use Rattle.cla_layout.proofs.Wholes.{own_column, own_column_within, some_part, entry_of_part, same_width}
 use Rattle.cla_coded.specs.declared.part.Part.{Part}
@@ -114,27 +112,6 @@ row_first Before bits layout i v whole first =
           (first.before found.0 (index_of other.columns j) found.1 (ltb-true _ _ found.2)));
     }
 
--- an extreme of entries is in range
-pub extreme_small : (Before : ℤ → ℤ → Type 0) (bits : ℕ) (f : ℕ → ℤ) (n : ℕ) (v : ℤ) →
-    ((i : ℕ) → i < n → InRange bits (f i)) → IsExtreme Before f n v
-    → InRange bits v
-extreme_small Before bits f n v small is = subst (InRange bits) is.reached.2 (small is.reached.0 is.reached.1)
-
--- and so is one of a whole layout's row or column
-pub row_small : (Before : ℤ → ℤ → Type 0) (bits : ℕ) (layout : Layout) (i : ℕ) (v : ℤ) → IsWhole bits layout →
-    i < layout.rows
-    → IsExtreme Before (entry_in layout.parts i) layout.cols v → InRange bits v
-row_small Before bits layout i v whole row is =
-    extreme_small Before bits (entry_in layout.parts i) layout.cols v
-    (λ j col. entry_small bits layout i j whole row col) is
-
-pub col_small : (Before : ℤ → ℤ → Type 0) (bits : ℕ) (layout : Layout) (j : ℕ) (v : ℤ) → IsWhole bits layout →
-    j < layout.cols
-    → IsExtreme Before (λ i. entry_in layout.parts i j) layout.rows v → InRange bits v
-col_small Before bits layout j v whole col is =
-    extreme_small Before bits (λ i. entry_in layout.parts i j) layout.rows v
-    (λ i row. entry_small bits layout i j whole row col) is
-
 -- one more place is written
 pub set_more : (P : ℕ → ℤ → Type 0) (into : List ℤ) (k : ℕ) (w : ℤ) → k < length into → P k w →
     ((t : ℕ) → t < k → P t (at into t))
@@ -181,9 +158,59 @@ group_row_first Before bits width codes dictionary m q part i v laws read first 
     (subst (λ (w : ℕ). IsExtreme Before (cell_of (codes part.group) (dictionary part.group) i) w v)
     (same_width _ _ _ _ _ laws read.is.group) first)
 
--- a place for each tuple, of one for each row
-pub tuple_places : (bits width : ℕ) (codes : List ℕ) (tuples : List (List ℤ)) → IsGroup bits width codes tuples →
-    (places : List ℤ) (n : ℕ)
-    → n ≡ length tuples → length places ≡ length codes → length (take n places) ≡ n
-tuple_places bits width codes tuples is places n count rows =
-    length-take-le n places (omega (arith, tuples_few bits width codes tuples is, count, rows))
+-- and what was read of the group tells the first of each row
+pub group_row_read : {G : Type 0} (Before : ℤ → ℤ → Type 0) (bits : ℕ) (width : G → ℕ) (codes : G → List ℕ)
+    (dictionary : G → List (List ℤ))
+    (m : TableOf G) (q : ℕ) (part : Part G) (found : List ℕ) (firsts : List ℤ) (i : ℕ)
+    → IsGroup bits (width part.group) (codes part.group) (dictionary part.group) →
+    IsPartRead bits codes dictionary m q part
+    → found ≡ codes part.group
+    → ((k : ℕ) → k < length (dictionary part.group) →
+    IsExtreme Before (value_of (dictionary part.group) k) (width part.group) (at firsts k))
+    → i < m.rows
+    → IsPartRowFirst Before i (part_at (parts_of codes dictionary m.parts) q) (at firsts (code_of found i))
+group_row_read Before bits width codes dictionary m q part found firsts i laws read same chosen row =
+    let tuples = dictionary part.group in
+    let tuple = laws.in_tuples i (rw read.is.a_code_each row) in
+    group_row_first Before bits width codes dictionary m q part i (at firsts (code_of found i)) laws read
+    (subst (λ (cs : List ℕ). IsExtreme Before (cell_of (codes part.group) tuples i) (width part.group)
+    (at firsts (code_of cs i))) (sym same) (chosen (code_of (codes part.group) i) tuple))
+
+-- the codes that were read name tuples
+pub found_within : (bits width : ℕ) (codes found : List ℕ) (tuples : List (List ℤ)) (count i : ℕ)
+    → IsGroup bits width codes tuples → found ≡ codes → length tuples ≤ count → i < length found
+    → code_of found i < count
+found_within bits width codes found tuples count i laws same few lt =
+    let row : i < length codes = subst (λ (cs : List ℕ). i < length cs) same lt in
+    omega (arith, laws.in_tuples i row, ap (λ (cs : List ℕ). code_of cs i) same, few)
+
+-- places for tuples, of as many as they are or more
+pub places_taken : {N : Type 0} (places : List N) (n tuples : ℕ) → n ≡ tuples → tuples ≤ length places →
+    length (take n places) ≡ n
+places_taken places n tuples count room = length-take-le n places (omega (arith, count, room))
+
+-- the value of a number that is read
+pub value_read : {N : Type 0} (value : N → ℤ) (numbers : List N) (p : ℕ) (number : N) → p < length numbers →
+    number ≡ get_or numbers p number
+    → value number ≡ at (map value numbers) p
+value_read value numbers p number there is = ap value is ∙ sym (get_or-map value numbers p number (pos 0) there)
+
+-- the rows before row i are joined with the items of their codes, and the others are as they were
+pub record AreJoinedBefore (join : ℤ → ℤ → ℤ) (i : ℕ) (codes : List ℕ) (items old new : List ℤ) : Type 0 where
+  pub done : (r : ℕ) → r < i → at new r ≡ join (at old r) (at items (code_of codes r))
+  pub left : (r : ℕ) → i ≤ r → at new r ≡ at old r
+
+pub joined_more : (join : ℤ → ℤ → ℤ) (i : ℕ) (codes : List ℕ) (items old now : List ℤ) (v : ℤ) → i < length now →
+    v ≡ join (at now i) (at items (code_of codes i)) → AreJoinedBefore join i codes items old now
+    → AreJoinedBefore join (i + 1) codes items old (set now i v)
+joined_more join i codes items old now v there is before = record {
+  done = λ r lt. elim (last_or_before i r lt) [
+    | inl last ↦ subst (λ (s : ℕ). at (set now i v) s ≡ join (at old s) (at items (code_of codes s))) (sym last)
+        (get_or-set_same now i v (pos 0) there ∙ is
+        ∙ ap (λ (z : ℤ). join z (at items (code_of codes i))) (before.left i (omega arith)))
+    | inr earlier ↦ (let other : r ≡ i → ⊥ = λ same. omega (arith, same, earlier) in
+        get_or-set_other now i r v (pos 0) other ∙ before.done r earlier)
+  ];
+  left = λ r le. (let other : r ≡ i → ⊥ = λ same. omega (arith, same, le) in
+      get_or-set_other now i r v (pos 0) other ∙ before.left r (omega (arith, le)));
+}

@@ -1,5 +1,5 @@
 -- What is made of each row or column of a matrix.
-use Rattle.std.specs.Prelude.{◌≡◌, ◌⊎◌, ℕ, ℤ, false, ◌+◌, ◌*◌, ◌<◌, List, length, map, Some, None, Result, Ok, Err}
+use Rattle.std.specs.Prelude.{◌≡◌, ◌⊎◌, ℕ, ℤ, false, ◌+◌, ◌*◌, ◌<◌, ◌≤◌, List, length, map, Some, None, Result, Ok, Err}
 use Rattle.cla_spec.specs.Numbers.{sum_to}
 use Rattle.cla_spec.specs.Matrix.{Matrix, entry}
 use Rattle.cla_num.specs.Fault.{fault_of, exactly}
@@ -7,7 +7,7 @@ use Rattle.cla_num.specs.declared.fault.Refused.{Refused}
 use Rattle.cla_num.specs.declared.fault.Refused.TheVariants.{Op, Memory}
 use Rattle.cla_layout.specs.Groups.{at, cell_of, value_of}
 use Rattle.cla_layout.specs.GroupLaws.{IsExtreme}
-use Rattle.cla_layout.specs.Layouts.{LayoutPart, column_at, has_column}
+use Rattle.cla_layout.specs.Layouts.{LayoutPart, part_at, column_at, has_column}
 use Rattle.cla_layout.proofs.Cells.{occurring}
 use Rattle.cla_meaning.specs.Entries.{Entry}
 
@@ -22,6 +22,10 @@ pub record AreColExtremes (Before : ℤ → ℤ → Type 0) (rows cols : ℕ) (a
   pub height : m.rows ≡ 1
   pub width : m.cols ≡ cols
   pub each : (j : ℕ) → j < cols → IsExtreme Before (λ i. a i j) rows (entry m 0 j)
+
+-- so many places hold something of each tuple of any part
+abbrev pub IsRoomForTuples : List LayoutPart → ℕ → Type 0
+IsRoomForTuples parts n = (q : ℕ) → q < length parts → length (part_at parts q).tuples ≤ n
 
 -- one row or one column of n cells
 abbrev pub IsLine : ℕ → ℕ → ℕ → Type 0

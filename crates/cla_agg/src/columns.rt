@@ -1,9 +1,9 @@
 //! Sums and extremes of the columns of a base: by tuples, and how often each occurs.
 
-ghost use Rattle.std.specs.Prelude.{◌≡◌, ◌<◌, ◌+◌, ◌*◌, ◌+ℤ◌, ℕ, pos, false, length};
+ghost use Rattle.std.specs.Prelude.{◌≡◌, ◌<◌, ◌≤◌, ◌+◌, ◌*◌, ◌+ℤ◌, ℕ, pos, false, length, map};
 ghost use Rattle.cla_num.specs.Bits.{IsSupported};
 ghost use Rattle.cla_num.specs.Counts.{AreBelow, kernel_bound, step_bound};
-ghost use Rattle.cla_layout.specs.Groups.{at};
+ghost use Rattle.cla_layout.specs.Groups.{at, value_of};
 ghost use Rattle.cla_layout.specs.GroupLaws.{IsExtreme};
 ghost use Rattle.cla_layout.specs.Layouts.{IsPart, IsWhole, column_at, entry_in};
 ghost use Rattle.cla_layout.specs.Values.{values_of};
@@ -19,6 +19,9 @@ use crate::order::Order;
 use cla_coded::{Part, Table};
 use cla_group::Group;
 use cla_num::{Meter, Number, Wide};
+
+/// How many tuples extremes are taken from at a time, one column after the other: their values stay near.
+const NEAR_TUPLES: u32 = 256;
 
 /// Adds up each column of the base, at its place. `into` has a zero for each.
 pub(crate) fn add_columns<N: Number, G: Group<N>>(
@@ -80,11 +83,11 @@ fn add_tuple<N: Number, G: Group<N>>(part: &Part<G>, k: u32, into: &mut [Wide], 
 /// Puts the extreme of each column of the base at its place.
 pub(crate) fn choose_in_columns<N: Number, G: Group<N>, O: Order<N>>(
     m: &Table<N, G>,
-    into: &mut [Wide],
+    into: &mut [N],
 )
     requires columns { length into.old ≡ m.now.cols }
     ensures firsts { let entry = entry_in (parts_of G.codes G.dictionary m.now.parts) in
-        (j : ℕ) → j < m.now.cols → IsExtreme O.before (λ i. entry i j) m.now.rows (at into.new j) }
+        (j : ℕ) → j < m.now.cols → IsExtreme O.before (λ i. entry i j) m.now.rows (at (map N.value into.new) j) }
     ensures whole { IsWhole N.BITS (layout_of G.codes G.dictionary m.now) }
 {
     for part in m.parts() {
@@ -92,45 +95,78 @@ pub(crate) fn choose_in_columns<N: Number, G: Group<N>, O: Order<N>>(
     }
 }
 
-// Puts the extremes of a part's columns at their places, tuple by tuple.
-fn choose_in_part<N: Number, G: Group<N>, O: Order<N>>(part: &Part<G>, into: &mut [Wide])
+// Puts the extremes of a part's columns at their places, some tuples at a time.
+fn choose_in_part<N: Number, G: Group<N>, O: Order<N>>(part: &Part<G>, into: &mut [N])
     requires part { IsPart N.BITS (length (G.codes part.now.group)) (part_of G.codes G.dictionary part.now) }
     requires within { let columns = part.now.columns.items in
         (c : ℕ) → c < length columns → column_at columns c < length into.old }
-    ensures { ArePlaced (IsExtreme O.before) (part_of G.codes G.dictionary part.now) into.old into.new }
+    ensures { ArePlaced (IsExtreme O.before) (part_of G.codes G.dictionary part.now)
+        (map N.value into.old) (map N.value into.new) }
 {
     place_first(part, into);
-    for k in 1..part.group.tuples() {
-        choose_in_tuple::<N, G, O>(part, k, into);
+    let tuples = part.group.tuples();
+    let mut from = 1;
+    while from < tuples {
+        let end = from + NEAR_TUPLES.min(tuples - from);
+        choose_in_tuples::<N, G, O>(part, from, end, into);
+        from = end;
     }
 }
 
 // Puts the first tuple's values at the places of their columns.
-fn place_first<N: Number, G: Group<N>>(part: &Part<G>, into: &mut [Wide])
+fn place_first<N: Number, G: Group<N>>(part: &Part<G>, into: &mut [N])
     requires part { IsPart N.BITS (length (G.codes part.now.group)) (part_of G.codes G.dictionary part.now) }
     requires within { let columns = part.now.columns.items in
         (c : ℕ) → c < length columns → column_at columns c < length into.old }
-    ensures { let p = part_of G.codes G.dictionary part.now in AreMade (IsFirstValue p) p into.old into.new }
+    ensures { let p = part_of G.codes G.dictionary part.now in
+        AreMade (IsFirstValue p) p (map N.value into.old) (map N.value into.new) }
 {
     for c in 0..part.group.width() {
-        into[part.columns[c as usize] as usize] = part.group.value(0, c).wide();
+        into[part.columns[c as usize] as usize] = part.group.value(0, c);
     }
 }
 
-// Joins a tuple's values with the extremes of the tuples before it.
-fn choose_in_tuple<N: Number, G: Group<N>, O: Order<N>>(part: &Part<G>, k: u32, into: &mut [Wide])
+// Joins the values of some tuples with the extremes of the tuples before them.
+fn choose_in_tuples<N: Number, G: Group<N>, O: Order<N>>(
+    part: &Part<G>,
+    from: u32,
+    end: u32,
+    into: &mut [N],
+)
     requires part { IsPart N.BITS (length (G.codes part.now.group)) (part_of G.codes G.dictionary part.now) }
-    requires tuple { k < length (G.dictionary part.now.group) }
+    requires order { from ≤ end }
+    requires tuples { end ≤ length (G.dictionary part.now.group) }
     requires within { let columns = part.now.columns.items in
         (c : ℕ) → c < length columns → column_at columns c < length into.old }
     requires so_far { let columns = part.now.columns.items in
         let part = part_of G.codes G.dictionary part.now in
-        (c : ℕ) → c < length columns → IsChosen O.before part k c (at into.old (column_at columns c)) }
+        (c : ℕ) → c < length columns → IsChosen O.before part from c (at (map N.value into.old) (column_at columns c)) }
     ensures { let p = part_of G.codes G.dictionary part.now in
-        AreMade (IsChosen O.before p (k + 1)) p into.old into.new }
+        AreMade (IsChosen O.before p end) p (map N.value into.old) (map N.value into.new) }
 {
     for c in 0..part.group.width() {
         let place = part.columns[c as usize] as usize;
-        into[place] = O::joined(into[place], part.group.value(k, c).wide());
+        into[place] = chosen_in_column::<N, G, O>(&part.group, c, from, end, into[place]);
     }
+}
+
+// Joins the values of some tuples in one place with the extreme of those before them.
+fn chosen_in_column<N: Number, G: Group<N>, O: Order<N>>(
+    g: &G,
+    c: u32,
+    from: u32,
+    end: u32,
+    mut first: N,
+) -> N
+    requires place { c < G.columns g.now }
+    requires order { from ≤ end }
+    requires tuples { end ≤ length (G.dictionary g.now) }
+    requires so_far { let tuples = G.dictionary g.now in
+        IsExtreme O.before (λ k. value_of tuples k c) from (N.value first) }
+    ensures { let tuples = G.dictionary g.now in IsExtreme O.before (λ k. value_of tuples k c) end (N.value result) }
+{
+    for k in from..end {
+        first = O::chosen(first, g.value(k, c));
+    }
+    first
 }

@@ -16,9 +16,9 @@ ghost use Rattle.cla_meaning.specs.Orders.{IsLesser, IsGreater};
 ghost use Rattle.cla_agg.specs.Lines.{IsLine, HasCells, AreRowExtremes, AreColExtremes};
 
 use crate::columns::{add_columns, choose_in_columns};
-use crate::numbers::{matrix_of, narrowed};
+use crate::numbers::matrix_of;
 use crate::order::{Falling, Order, Rising};
-use crate::rows::{add_rows, choose_in_rows};
+use crate::rows::{add_rows, choose_in_rows, most_tuples};
 use cla_coded::Table;
 use cla_group::Group;
 use cla_num::{Dense, Memory, Meter, Number, Refused, Wide};
@@ -29,8 +29,8 @@ use std::alloc::Global;
 ///
 /// Each tuple's values count as often as it occurs (PVLDB 9(12), section 3): it makes as many
 /// multiplications as the dictionaries have values, and scans no rows. Of a flipped table it makes none,
-/// and scatters once for each group, as `row_sums` does. It takes a place for each sum, and for a flipped
-/// table one more, before it begins.
+/// and scatters once for each group, as `row_sums` does. It takes two places for each sum, and for a
+/// flipped table one for each tuple of the part that has most, before it begins.
 pub fn col_sums<N: Number, G: Group<N>>(
     alloc: Global,
     m: &Table<N, G>,
@@ -55,8 +55,8 @@ pub fn col_sums<N: Number, G: Group<N>>(
 ///
 /// The sum of each tuple is scattered over the tuple's rows, once for each group, without a
 /// multiplication. Of a flipped table it makes as many multiplications as the dictionaries have values,
-/// and scans no rows, as `col_sums` does. It takes two places for each sum, and for a flipped table one,
-/// before it begins.
+/// and scans no rows, as `col_sums` does. It takes two places for each sum, and for an unflipped table
+/// one for each tuple of the part that has most, before it begins.
 pub fn row_sums<N: Number, G: Group<N>>(
     alloc: Global,
     m: &Table<N, G>,
@@ -76,8 +76,9 @@ pub fn row_sums<N: Number, G: Group<N>>(
     }
 }
 
-/// The least entry of each row, as one column. The least of each tuple is scattered over the tuple's rows,
-/// once for each group; of a flipped table no rows are scanned. It takes two places for each row.
+/// The least entry of each row, as one column. The least of each tuple goes to the tuple's rows, whose
+/// codes are read once for each group; of a flipped table no rows are scanned. It takes a place and a code
+/// for each row, and a place for each tuple of the part that has most.
 pub fn row_least<N: Number, G: Group<N>>(alloc: Global, m: &Table<N, G>) -> Result<Dense<N>, Memory>
     requires { IsSupported N.BITS }
     ensures { let entry = table_entry G.codes G.dictionary m.now in
@@ -99,7 +100,7 @@ pub fn row_greatest<N: Number, G: Group<N>>(
 }
 
 /// The least entry of each column, as one row. Each value of the dictionaries is read once, and no rows are
-/// scanned; of a flipped table it works as `row_least` does. It takes a place or two for each column.
+/// scanned; of a flipped table it works as `row_least` does. It takes a place for each column.
 pub fn col_least<N: Number, G: Group<N>>(alloc: Global, m: &Table<N, G>) -> Result<Dense<N>, Memory>
     requires { IsSupported N.BITS }
     ensures { let entry = table_entry G.codes G.dictionary m.now in
@@ -200,7 +201,7 @@ fn sums_of_rows<N: Number, G: Group<N>>(
     let Ok(numbers) = Vec::with_capacity(alloc, rows as usize * cols as usize) else {
         return Err(Refused::Memory);
     };
-    let Ok(mut scratch) = zeros(alloc, rows, cols) else {
+    let Ok(mut scratch) = Vec::from_elem(alloc, Wide::zero(), most_tuples(m) as usize) else {
         return Err(Refused::Memory);
     };
     let Ok(mut sums) = zeros(alloc, rows, cols) else {
@@ -208,6 +209,14 @@ fn sums_of_rows<N: Number, G: Group<N>>(
     };
     add_rows(m, &mut scratch, &mut sums);
     matrix_of(rows, cols, &sums, numbers)
+}
+
+// So many numbers, to be written over.
+fn unwritten<N: Number>(alloc: Global, count: usize) -> Result<Vec<N>, Memory>
+    requires { IsSupported N.BITS }
+    ensures { IfOk result (λ numbers. length numbers.items ≡ count) }
+{
+    Ok(Vec::from_elem(alloc, N::of(0).unwrap(), count)?)
 }
 
 // The extremes of the base's columns, as a matrix of this shape.
@@ -222,10 +231,9 @@ fn firsts_of_columns<N: Number, G: Group<N>, O: Order<N>>(
     ensures { let entry = entry_in (parts_of G.codes G.dictionary m.now.parts) in
         IfOk result (λ d. HasCells (λ p v. IsExtreme O.before (λ i. entry i p) m.now.rows v) rows cols d) }
 {
-    let numbers = Vec::with_capacity(alloc, rows as usize * cols as usize)?;
-    let mut firsts = zeros(alloc, rows, cols)?;
+    let mut firsts = unwritten(alloc, rows as usize * cols as usize)?;
     choose_in_columns::<N, G, O>(m, &mut firsts);
-    Ok(Dense::new(rows, cols, narrowed(&firsts, numbers)?))
+    Ok(Dense::new(rows, cols, firsts))
 }
 
 // The extremes of the base's rows, as a matrix of this shape.
@@ -240,9 +248,10 @@ fn firsts_of_rows<N: Number, G: Group<N>, O: Order<N>>(
     ensures { let entry = entry_in (parts_of G.codes G.dictionary m.now.parts) in
         IfOk result (λ d. HasCells (λ p v. IsExtreme O.before (entry p) m.now.cols v) rows cols d) }
 {
-    let numbers = Vec::with_capacity(alloc, rows as usize * cols as usize)?;
-    let mut scratch = zeros(alloc, rows, cols)?;
-    let mut firsts = zeros(alloc, rows, cols)?;
-    choose_in_rows::<N, G, O>(m, &mut scratch, &mut firsts);
-    Ok(Dense::new(rows, cols, narrowed(&firsts, numbers)?))
+    let count = rows as usize * cols as usize;
+    let mut codes = Vec::from_elem(alloc, 0, count)?;
+    let mut tuples = unwritten(alloc, most_tuples(m) as usize)?;
+    let mut firsts = unwritten(alloc, count)?;
+    choose_in_rows::<N, G, O>(m, &mut codes, &mut tuples, &mut firsts);
+    Ok(Dense::new(rows, cols, firsts))
 }

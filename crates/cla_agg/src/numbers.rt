@@ -59,16 +59,3 @@ fn numbers_of<N: Number>(
     }
     Ok(numbers)
 }
-
-/// The numbers of these cells, each of which is in range. It fills `numbers`, which is empty.
-pub(crate) fn narrowed<N: Number>(cells: &[Wide], mut numbers: Vec<N>) -> Result<Vec<N>, Memory>
-    requires bits { IsSupported N.BITS }
-    requires small { (p : ℕ) → p < length cells.now → InRange N.BITS (at cells.now p) }
-    requires none_yet { numbers.items ≡ [] }
-    ensures { IfOk result (λ ns. map N.value ns.items ≡ cells.now) }
-{
-    for cell in cells {
-        numbers.push(N::narrow(*cell).unwrap())?;
-    }
-    Ok(numbers)
-}

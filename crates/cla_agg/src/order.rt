@@ -1,12 +1,10 @@
 //! Which of two numbers stands before the other.
 
-ghost use Rattle.std.specs.Prelude.{◌≡◌, ℤ, length};
+ghost use Rattle.std.specs.Prelude.{◌≡◌, ℤ};
 ghost use Rattle.std.specs.Int.{int_min, int_max};
-ghost use Rattle.cla_layout.specs.Groups.{Scattered};
 ghost use Rattle.cla_meaning.specs.Orders.{IsLesser, IsGreater, IsChoice};
 
-use cla_group::Group;
-use cla_num::{Number, Wide};
+use cla_num::Number;
 
 /// An order of numbers, rising or falling.
 pub(crate) trait Order<N: Number> {
@@ -19,17 +17,6 @@ pub(crate) trait Order<N: Number> {
     /// The one that stands before.
     fn chosen(a: N, b: N) -> N
         ensures { N.value result ≡ choice (N.value a) (N.value b) };
-
-    /// The same of exact values.
-    fn joined(a: Wide, b: Wide) -> Wide
-        ensures { result ≡ choice a b };
-
-    /// Each row's place becomes the one of itself and the part of the row's code that stands before. `parts`
-    /// has an item for each tuple, and `into` one for each row.
-    fn scatter<G: Group<N>>(g: &G, parts: &[Wide], into: &mut [Wide])
-        requires tuples { length parts.now ≡ length (G.dictionary g.now) }
-        requires rows { length into.old ≡ length (G.codes g.now) }
-        ensures { Scattered choice (G.codes g.now) parts.now into.old into.new };
 
     /// What holds of each order.
     ghost laws: { IsChoice before choice };
@@ -52,14 +39,6 @@ impl<N: Number> Order<N> for Rising {
         if b.wide() < a.wide() { b } else { a }
     }
 
-    fn joined(a: Wide, b: Wide) -> Wide {
-        a.min(b)
-    }
-
-    fn scatter<G: Group<N>>(g: &G, parts: &[Wide], into: &mut [Wide]) {
-        g.scatter_least(parts, into);
-    }
-
     ghost laws = { lesser_chosen };
 }
 
@@ -72,14 +51,6 @@ impl<N: Number> Order<N> for Falling {
 
     fn chosen(a: N, b: N) -> N {
         if b.wide() < a.wide() { a } else { b }
-    }
-
-    fn joined(a: Wide, b: Wide) -> Wide {
-        a.max(b)
-    }
-
-    fn scatter<G: Group<N>>(g: &G, parts: &[Wide], into: &mut [Wide]) {
-        g.scatter_greatest(parts, into);
     }
 
     ghost laws = { greater_chosen };

@@ -8,10 +8,9 @@ ghost use Rattle.cla_layout.specs.Groups.{at, code_of, occurrences_of};
 ghost use Rattle.cla_layout.specs.Tuples.{AreCodes};
 ghost use Rattle.cla_coded.specs.AnyGroups.{any_columns};
 
-use crate::stop::Stop;
 use crate::task::Task;
 use cla_coded::AnyGroup;
-use cla_group::Kind;
+use cla_measuring::Stop;
 use cla_num::{Int, Memory, Number, Wide};
 use cla_rows::{Occurrences, counted};
 use std::alloc::Global;
@@ -19,54 +18,7 @@ use std::alloc::Global;
 /// The numbers of the groups.
 pub type Cell = Int<47>;
 
-/// How many rows have equal codes one after the other in groups of runs.
-const RUN_ROWS: u32 = 16;
-
 const MOST_CELLS: usize = 1 << 26;
-
-// A number that looks like chance, the same for each place each time.
-fn mixed(place: u32) -> u32 {
-    let first = (place ^ place >> 16).wrapping_mul(0x7feb_352d);
-    let second = (first ^ first >> 15).wrapping_mul(0x846c_a68b);
-    second ^ second >> 16
-}
-
-// The code of the rows in this place: 0, or a number from 1 to `tuples`. `greatest` is the greatest code
-// before: the first places have the tuples in turn, so that each has a row.
-fn code_at(task: &Task, place: u32, greatest: u32) -> u32 {
-    if mixed(place) % 1000 >= task.listed || task.tuples == 0 {
-        return 0;
-    }
-    if greatest < task.tuples {
-        return greatest + 1;
-    }
-    (mixed(place.wrapping_add(0x9e37_79b9)) % task.tuples).wrapping_add(1)
-}
-
-// So many more rows with this code.
-fn push_rows(code: u32, count: u32, codes: &mut Vec<u32>) -> Result<(), Memory> {
-    for _ in 0..count {
-        codes.push(code)?;
-    }
-    Ok(())
-}
-
-/// The code of each row.
-pub fn codes_of_rows(alloc: Global, task: &Task) -> Result<Vec<u32>, Memory> {
-    let rows_a_place = match task.kind {
-        Kind::Runs => RUN_ROWS,
-        _ => 1,
-    };
-    let mut codes = Vec::with_capacity(alloc, task.rows as usize + RUN_ROWS as usize)?;
-    let mut greatest = 0;
-    for place in 0..task.rows.div_ceil(rows_a_place) {
-        let code = code_at(task, place, greatest);
-        push_rows(code, rows_a_place, &mut codes)?;
-        greatest = greatest.max(code);
-    }
-    codes.truncate(task.rows as usize);
-    Ok(codes)
-}
 
 // Whether each code is below `tuples`.
 fn are_below(codes: &[u32], tuples: u32) -> bool

@@ -1,23 +1,21 @@
 //! Measures the calls of groups: prints what each call made as a check sum, and on standard error how long it took.
 #![tactic(auto)]
 
-mod check_sum;
 mod input;
 mod measure;
-mod stop;
 mod task;
 
-use input::{codes_of_rows, group_of};
+use cla_measuring::Stop;
+use input::group_of;
 use measure::measure_all;
 use std::env;
 use std::rt::Runtime;
-use stop::Stop;
 use task::Task;
 
 fn run(rt: &(impl Runtime + AllocGlobal)) -> Result<(), Stop> {
     let words: Vec<String> = env::args(rt)?.skip(1).collect(rt.alloc())?;
     let task = Task::from_words(&words).ok_or(Stop::Words)?;
-    let codes = codes_of_rows(rt.alloc(), &task)?;
+    let codes = task.draw().codes_of_rows(rt.alloc())?;
     let mut groups = Vec::new(rt.alloc());
     for _ in 0..task.copies {
         groups.push(group_of(rt.alloc(), &task, &codes)?)?;

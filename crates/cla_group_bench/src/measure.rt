@@ -3,56 +3,17 @@
 ghost use Rattle.std.specs.Prelude.{◌≡◌};
 ghost use Rattle.cla_coded.specs.AnyGroups.{any_columns};
 
-use crate::check_sum::{sum_of_codes, sum_of_values, sum_of_wides};
 use crate::input::{Cell, multiples, parts_of, zeros};
-use crate::stop::Stop;
 use crate::task::Task;
 use cla_coded::{AnyGroup, Part, Table};
 use cla_group::{Group, Owned};
+use cla_measuring::{Measured, Stop, sum_of_codes, sum_of_values, sum_of_wides};
 use std::alloc::Global;
 use std::rt::{Clock, Runtime};
 use std::time::Instant;
 
 /// How many groups of other values are made one after the other, since one alone takes too short a time.
 const MADE: u32 = 16;
-
-// The best time of a call, and the check sum of what it made.
-#[derive(Clone, Copy)]
-struct Measured {
-    nanoseconds: u64,
-    sum: u64,
-}
-
-impl Measured {
-    fn new() -> Measured {
-        Measured {
-            nanoseconds: u64::MAX,
-            sum: 0,
-        }
-    }
-
-    // One more round, which began at `start` and ends now.
-    fn end_round(&mut self, clock: &impl Clock, start: Instant) -> Result<(), Stop> {
-        let nanoseconds = u64::try_from(start.elapsed(clock)?.as_nanos()).unwrap_or(u64::MAX);
-        self.nanoseconds = self.nanoseconds.min(nanoseconds);
-        Ok(())
-    }
-
-    // Prints the check sum, and on standard error the time a row in thousandths of a nanosecond.
-    fn print(&self, rt: &(impl Print + Eprint), name: &str, rows: u32) -> Result<(), Stop> {
-        let a_row = (self.nanoseconds as u128 * 1000)
-            .checked_div(rows as u128)
-            .unwrap_or(0);
-        println!(rt; "{name} {}", self.sum)?;
-        eprintln!(rt;
-            "{name} {} {}.{:03}",
-            self.nanoseconds,
-            a_row / 1000,
-            a_row % 1000
-        )?;
-        Ok(())
-    }
-}
 
 fn scatter(
     rt: &(impl Clock + AllocGlobal),

@@ -1,6 +1,7 @@
 //! What is measured.
 
 use cla_group::Kind;
+use cla_measuring::Draw;
 
 /// What is measured: groups of one column.
 #[derive(Clone, Copy)]
@@ -36,6 +37,17 @@ impl Task {
             rounds: rounds.parse().ok()?,
             copies: copies.parse().ok()?,
         })
+    }
+
+    /// How the groups' codes are drawn.
+    pub fn draw(&self) -> Draw {
+        Draw {
+            kind: self.kind,
+            rows: self.rows,
+            tuples: self.tuples,
+            listed: self.listed,
+            salt: 0,
+        }
     }
 }
 

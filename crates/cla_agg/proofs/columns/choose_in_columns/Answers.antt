@@ -1,4 +1,4 @@
-use Rattle.std.proofs.Common.{subst, sym, arith}
+use Rattle.std.proofs.Common.{map, subst, sym, arith}
 use Rattle.cla_layout.specs.GroupLaws.{IsExtreme}
 use Rattle.cla_layout.specs.Layouts.{LayoutPart}
 use Rattle.cla_coded.specs.Tables.{layout_of}
@@ -43,10 +43,11 @@ loop-part-preserved g c =
     let read = part_read g.N.Number.BITS codes dictionary m _ q part whole c.parts-part-items.ensures.parts
     c.loop-part-test.true c.part-item.is in
     let of = IsExtreme g.O.Order.before in
+    let value = g.N.Number.value in
     parts_placed of (extreme_respects g.O.Order.before) g.N.Number.BITS (layout_of codes dictionary m) q
-    c.args.into.now c.loop-part.into c.choose_in_part.new.into whole read.within
-    (subst (λ (p : LayoutPart). ArePlaced of p c.loop-part.into c.choose_in_part.new.into) (sym read.same)
-    c.choose_in_part.ensures)
+    (map value c.args.into.now) (map value c.loop-part.into) (map value c.choose_in_part.new.into) whole read.within
+    (subst (λ (p : LayoutPart). ArePlaced of p (map value c.loop-part.into) (map value c.choose_in_part.new.into))
+    (sym read.same) c.choose_in_part.ensures)
     c.loop-part.invariant
 
 pub returns-clause-firsts : goal.returns-clause-firsts
@@ -56,6 +57,6 @@ returns-clause-firsts g c =
     let dictionary = g.G.Group.dictionary in
     let q = c.loop-part.part-index in
     all_placed (IsExtreme g.O.Order.before) g.N.Number.BITS (layout_of codes dictionary m) q
-    c.args.into.now c.loop-part.into c.parts-part-items.ensures.whole
+    (map g.N.Number.value c.args.into.now) (map g.N.Number.value c.loop-part.into) c.parts-part-items.ensures.whole
     (all_read codes dictionary m _ q c.parts-part-items.ensures.parts (λ lt. omega (arith, lt, c.loop-part-test.false)))
     c.loop-part.invariant

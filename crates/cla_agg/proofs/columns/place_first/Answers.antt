@@ -1,4 +1,5 @@
-use Rattle.std.proofs.Common.{◌≡◌, ◌<◌, ℕ, ℤ, length, ◌∙◌, arith}
+use Rattle.std.proofs.Common.{◌≡◌, ◌<◌, ℕ, ℤ, length, map, arith}
+use Rattle.std.proofs.lemmas.List.{map-set, length-map}
 use Rattle.cla_layout.specs.Groups.{at}
 use Rattle.cla_layout.specs.Layouts.{column_at}
 use Rattle.cla_layout.proofs.Columns.{column_read}
@@ -15,13 +16,17 @@ loop-c-preserved g c =
     let col : c.loop-c.c < length part.columns = omega (arith, c.loop-c-test.true, c.width-c-end.ensures, wide) in
     let column : c.index.result.now ≡ column_at part.columns c.loop-c.c =
     column_read part.columns c.loop-c.c c.index.result.now c.index.ensures col in
-    let within : c.index.result.now < length c.loop-c.into =
-    rw column (omega (arith, c.requires.within c.loop-c.c col, c.loop-c.auto.into)) in
-    let place : IsPlaceOf part c.loop-c.into c.loop-c.c c.index.result.now =
+    let value = g.N.Number.value in
+    let now = map value c.loop-c.into in
+    let within : c.index.result.now < length now =
+    rw column (omega (arith, c.requires.within c.loop-c.c col, c.loop-c.auto.into, length-map c.loop-c.into value)) in
+    let place : IsPlaceOf part now c.loop-c.c c.index.result.now =
     record { rising = c.requires.part.rising; there = col; is = column; within = within } in
-    made_here (IsFirstValue part) (λ (d : ℕ) (v : ℤ). v ≡ at c.args.into.now (column_at part.columns d))
-    c.loop-c.c part c.args.into.now c.loop-c.into c.index.result.now c.wide.result place
-    (c.wide.ensures ∙ c.value.ensures) c.loop-c.invariant
+    rw (map-set value c.loop-c.into c.index.result.now c.value.result)
+    (made_here (IsFirstValue part)
+    (λ (d : ℕ) (v : ℤ). v ≡ at (map value c.args.into.now) (column_at part.columns d))
+    c.loop-c.c part (map value c.args.into.now) now c.index.result.now (value c.value.result) place
+    c.value.ensures c.loop-c.invariant)
 
 pub returns : goal.returns
 returns g c =

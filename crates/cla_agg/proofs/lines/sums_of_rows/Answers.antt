@@ -13,7 +13,7 @@ returns g c =
     let cols = c.args.cols in
     let sum = row_sum m.cols (entry_in (parts_of g.G.Group.codes g.G.Group.dictionary m.parts)) in
     let into = c.add_rows.new.into in
-    let zeros = c.in-Ok-zeros-2.sums in
+    let zeros = c.in-Ok-zeros.sums in
     let kept : length into ≡ zeros.len = c.add_rows.auto.into ∙ c.deref_mut-2.ensures.len in
     let back : c.deref.result.now ≡ into = c.deref.ensures.value
     ∙ take_at into (drop (length into) zeros.items) zeros.len kept in

@@ -1,9 +1,9 @@
-use Rattle.std.proofs.Common.{◌≡◌, ◌<◌, ◌+◌, ◌+ℤ◌, ℤ, length, take, ap, subst, sym, ◌∙◌, arith}
+use Rattle.std.proofs.Common.{◌≡◌, ◌<◌, ◌≤◌, ◌+◌, ◌+ℤ◌, ℤ, length, take, ap, subst, sym, ◌∙◌, arith}
 use Rattle.std.specs.Int.{w128}
 use Rattle.std.specs.Int.RustNames.{FitsSigned}
 use Rattle.cla_num.proofs.Sizes.{fits_by_size}
 use Rattle.cla_layout.specs.Groups.{at, cell_of}
-use Rattle.cla_layout.specs.Layouts.{part_at}
+use Rattle.cla_layout.specs.Layouts.{LayoutPart, part_at}
 use Rattle.cla_layout.specs.Laws.{sum_over}
 use Rattle.cla_layout.proofs.PartSums.{sum_over_more}
 use Rattle.cla_coded.specs.Parts.{parts_of}
@@ -35,7 +35,9 @@ add_group-requires-clause-scratch g c =
     let whole = c.parts-part-items.ensures.whole in
     let read = part_read g.N.Number.BITS codes dictionary m _ q part whole c.parts-part-items.ensures.parts
     c.loop-part-test.true c.part-item.is in
-    c.loop-part.auto.scratch ∙ c.requires.scratch ∙ sym read.is.a_code_each
+    let few = subst (λ (p : LayoutPart). length p.tuples ≤ length c.args.scratch.now) read.same
+    (c.requires.scratch q read.within) in
+    omega (arith, few, c.loop-part.auto.scratch)
 
 pub add_group-requires-clause-fits : goal.add_group-requires-clause-fits
 add_group-requires-clause-fits g c i there =
