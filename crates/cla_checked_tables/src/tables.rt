@@ -44,8 +44,8 @@ fn are_within(items: &[u32], least: u32, end: u32) -> bool
     true
 }
 
-// These are codes of rows, with so many values of their tuples in all.
-fn expect_codes(alloc: Global, width: u32, codes: &[u32], values: usize) -> Result<(), Fail>
+/// These are codes of rows, with so many values of their tuples in all. Refused where they aren't.
+pub fn expect_codes(alloc: Global, width: u32, codes: &[u32], values: usize) -> Result<(), Fail>
     ensures { IfOk result (λ _. AreCodes width (values / width) codes.now values) }
 {
     let width = width as usize;

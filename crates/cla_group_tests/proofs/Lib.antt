@@ -1,2 +1,1 @@
 mod Smalls
-mod ListedColumns

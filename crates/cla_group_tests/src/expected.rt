@@ -1,6 +1,6 @@
 //! What groups are expected to be, by rules of their own.
 
-use crate::checked::{Entry, group_of};
+use cla_checked_tables::{Entry, group_of};
 use cla_coded::AnyGroup;
 use cla_group::Kind;
 use std::alloc::Global;

@@ -2,8 +2,9 @@
 
 ghost use Rattle.std.specs.Prelude.{◌≡◌};
 
-use crate::checked::{Entry, numbers, wides};
+use crate::checked::wides;
 use crate::expected::Expected;
+use cla_checked_tables::{Entry, numbers};
 use cla_coded::codes_of;
 use cla_group::{Group, Owned};
 use cla_num::Wide;

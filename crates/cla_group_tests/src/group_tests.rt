@@ -3,9 +3,10 @@
 ghost use Rattle.std.specs.Prelude.{◌≡◌};
 ghost use Rattle.cla_codes.specs.Widths.{FitsWidth};
 
-use crate::checked::{Entry, codes_in_bytes};
+use crate::checked::codes_in_bytes;
 use crate::expected::Expected;
 use crate::group_calls::{group_calls, owned_calls};
+use cla_checked_tables::Entry;
 use cla_coded::AnyGroup;
 use cla_codes::Codes;
 use cla_group::{Group, Kind, Owned};

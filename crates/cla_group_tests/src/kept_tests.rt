@@ -2,8 +2,8 @@
 
 ghost use Rattle.std.specs.Prelude.{◌<◌, length};
 
-use crate::checked::{Entry, group_of, numbers};
 use crate::expected::Expected;
+use cla_checked_tables::{Entry, group_of, numbers};
 use cla_coded::AnyGroup;
 use cla_group::{Group, Kind, Owned};
 use cla_offsets::{Offsets, SEGMENT_ROWS};

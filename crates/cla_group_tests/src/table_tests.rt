@@ -3,8 +3,8 @@
 ghost use Rattle.std.specs.Prelude.{◌≡◌};
 
 use crate::borrowed::borrowed_table;
-use crate::checked::{Entry, numbers, table_of};
 use crate::expected::Expected;
+use cla_checked_tables::{Entry, numbers, table_of};
 use cla_coded::{Coded, Part, Skeleton, Table, codes_of, copy, loose};
 use cla_group::{Group, Kind};
 use cla_num::Dense;

@@ -10,8 +10,6 @@ mod layouts;
 #[cfg(test)]
 mod slow;
 #[cfg(test)]
-mod watched;
-#[cfg(test)]
 mod work_tests;
 #[cfg(test)]
 mod worked_tests;

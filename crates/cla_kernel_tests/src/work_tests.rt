@@ -6,9 +6,8 @@ ghost use Rattle.cla_num.specs.Counts.{AreBelow, kernel_bound};
 use crate::calls::aggregate;
 use crate::layouts::{Grouping, grouped, parts_of};
 use crate::slow::{Cells, Fold, Lines, Outcome};
-use crate::watched::{Calls, Watched};
 use cla_agg::sum;
-use cla_checked_tables::{Entry, numbers, table_of};
+use cla_checked_tables::{Calls, Entry, Watched, numbers, table_of};
 use cla_coded::{AnyGroup, Coded, Part, Table};
 use cla_map::{Step, broadcast_row, map_chain};
 use cla_num::{CellOp, Meter, Number, Refused};
@@ -36,9 +35,9 @@ fn watched_table<'a>(alloc: Global, calls: &'a Calls, flipped: bool) -> Result<C
     table_of(alloc, 100, 3, flipped, parts)
 }
 
-// An aggregate of the table or of its transpose, the rows and cells of what it answers, and how many
-// multiplications and scatters it makes.
-type Work<'a> = (bool, Fold, Lines, u32, &'a [i64], u128, u32);
+// An aggregate of the table or of its transpose, the rows and cells of what it answers, and how often it
+// multiplies, reads the codes of all rows, and scatters.
+type Work<'a> = (bool, Fold, Lines, u32, &'a [i64], u128, u32, u32);
 
 const SUMS: [i64; 3] = [50, 300, 50];
 
@@ -47,29 +46,32 @@ const LOWS: [i64; 3] = [0, 3, 0];
 const HIGHS: [i64; 3] = [1, 3, 1];
 
 const WORK: [Work; 15] = [
-    (false, Fold::Sum, Lines::All, 1, &[400], 5, 0),
-    (false, Fold::Least, Lines::All, 1, &[0], 0, 0),
-    (true, Fold::Greatest, Lines::All, 1, &[3], 0, 0),
-    (false, Fold::Sum, Lines::Columns, 1, &SUMS, 5, 0),
-    (true, Fold::Sum, Lines::Rows, 3, &SUMS, 5, 0),
-    (false, Fold::Least, Lines::Columns, 1, &LOWS, 0, 0),
-    (true, Fold::Least, Lines::Rows, 3, &LOWS, 0, 0),
-    (false, Fold::Greatest, Lines::Columns, 1, &HIGHS, 0, 0),
-    (true, Fold::Greatest, Lines::Rows, 3, &HIGHS, 0, 0),
-    (false, Fold::Sum, Lines::Rows, 100, &[4; 100], 0, 2),
-    (true, Fold::Sum, Lines::Columns, 1, &[4; 100], 0, 2),
-    (false, Fold::Least, Lines::Rows, 100, &[0; 100], 0, 2),
-    (true, Fold::Least, Lines::Columns, 1, &[0; 100], 0, 2),
-    (false, Fold::Greatest, Lines::Rows, 100, &[3; 100], 0, 2),
-    (true, Fold::Greatest, Lines::Columns, 1, &[3; 100], 0, 2),
+    (false, Fold::Sum, Lines::All, 1, &[400], 5, 0, 0),
+    (false, Fold::Least, Lines::All, 1, &[0], 0, 0, 0),
+    (true, Fold::Greatest, Lines::All, 1, &[3], 0, 0, 0),
+    (false, Fold::Sum, Lines::Columns, 1, &SUMS, 5, 0, 0),
+    (true, Fold::Sum, Lines::Rows, 3, &SUMS, 5, 0, 0),
+    (false, Fold::Least, Lines::Columns, 1, &LOWS, 0, 0, 0),
+    (true, Fold::Least, Lines::Rows, 3, &LOWS, 0, 0, 0),
+    (false, Fold::Greatest, Lines::Columns, 1, &HIGHS, 0, 0, 0),
+    (true, Fold::Greatest, Lines::Rows, 3, &HIGHS, 0, 0, 0),
+    (false, Fold::Sum, Lines::Rows, 100, &[4; 100], 0, 0, 2),
+    (true, Fold::Sum, Lines::Columns, 1, &[4; 100], 0, 0, 2),
+    (false, Fold::Least, Lines::Rows, 100, &[0; 100], 0, 2, 0),
+    (true, Fold::Least, Lines::Columns, 1, &[0; 100], 0, 2, 0),
+    (false, Fold::Greatest, Lines::Rows, 100, &[3; 100], 0, 2, 0),
+    (true, Fold::Greatest, Lines::Columns, 1, &[3; 100], 0, 2, 0),
 ];
 
-// Since the last time each of the five values was read once, no row's code was read, and so many
-// multiplications, map evaluations and scatters were made.
-fn costs(rt: &impl Abort, calls: &Calls, meter: &Meter, expected: (u128, u128, u32)) {
-    let (values, rows, scatters) = calls.taken();
-    assert_eq!(rt; (values, rows), (5, 0));
-    assert_eq!(rt; (meter.mults(), meter.maps(), scatters), expected);
+// Since the last time each of the five values was read once, nothing was gathered, and so many
+// multiplications, map evaluations, readings of rows' codes and scatters were made.
+fn costs(rt: &impl Abort, calls: &Calls, meter: &Meter, expected: (u128, u128, u32, u32)) {
+    let taken = calls.taken();
+    assert_eq!(rt; (taken.values, taken.gathers), (5, 0));
+    assert_eq!(rt;
+        (meter.mults(), meter.maps(), taken.codes, taken.scatters),
+        expected
+    );
 }
 
 // The aggregate of the table, which is let go.
@@ -85,14 +87,14 @@ fn aggregates_by_tuples(rt: HostRuntime) -> Result<(), Fail> {
     let alloc = rt.alloc();
     let calls = Calls::none();
     for work in WORK.as_slice() {
-        let (_, _, _, rows, cells, mults, scatters) = *work;
+        let (_, _, _, rows, cells, mults, reads, scatters) = *work;
         let mut meter = Meter::new();
         let answer = made(alloc, &calls, *work, &mut meter)?;
         assert!(rt;
             answer.is(&Outcome::of(alloc, rows, cells)?),
             "another answer was expected"
         );
-        costs(&rt, &calls, &meter, (mults, 0, scatters));
+        costs(&rt, &calls, &meter, (mults, 0, reads, scatters));
     }
     Ok(())
 }
@@ -115,11 +117,11 @@ fn maps_scan_no_rows(rt: HostRuntime) -> Result<(), Fail> {
     let mut meter = Meter::new();
     let mapped = map_chain(alloc, &table, &[Step::Neg, Step::Square], &mut meter);
     assert_eq!(rt; shape_of(mapped), Some((100, 3)));
-    costs(&rt, &calls, &meter, (0, 10, 0));
+    costs(&rt, &calls, &meter, (0, 10, 0, 0));
     let mut meter = Meter::new();
     let added = broadcast_row(alloc, &table, CellOp::Add, &row, &mut meter);
     assert_eq!(rt; shape_of(added), Some((100, 3)));
-    costs(&rt, &calls, &meter, (0, 5, 0));
+    costs(&rt, &calls, &meter, (0, 5, 0, 0));
     Ok(())
 }
 

@@ -12,6 +12,4 @@ mod products;
 #[cfg(test)]
 mod tables;
 #[cfg(test)]
-mod watched;
-#[cfg(test)]
 mod work_tests;

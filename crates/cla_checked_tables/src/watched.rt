@@ -8,30 +8,43 @@ use cla_num::{Memory, Number, Wide};
 use std::alloc::Global;
 use std::cell::Cell;
 
-/// How often each call was made.
+/// How often groups were asked for a value, for codes of rows, to scatter and to gather.
+#[derive(Clone, Copy, Debug, PartialEq, Eq)]
+pub struct Taken {
+    pub values: u32,
+    pub codes: u32,
+    pub scatters: u32,
+    pub gathers: u32,
+}
+
+/// Where the calls of groups are counted.
 #[derive(Drop)]
-pub(crate) struct Calls {
+pub struct Calls {
     values: Cell<u32>,
-    rows: Cell<u32>,
+    codes: Cell<u32>,
     scatters: Cell<u32>,
+    gathers: Cell<u32>,
 }
 
 impl Calls {
-    pub(crate) fn none() -> Calls {
+    /// No call yet.
+    pub fn none() -> Calls {
         Calls {
             values: Cell::new(0),
-            rows: Cell::new(0),
+            codes: Cell::new(0),
             scatters: Cell::new(0),
+            gathers: Cell::new(0),
         }
     }
 
-    /// The calls that read a value, that read rows' codes, and that scatter or gather, since the last time.
-    pub(crate) fn taken(&self) -> (u32, u32, u32) {
-        (
-            self.values.replace(0),
-            self.rows.replace(0),
-            self.scatters.replace(0),
-        )
+    /// The calls since the last time.
+    pub fn taken(&self) -> Taken {
+        Taken {
+            values: self.values.replace(0),
+            codes: self.codes.replace(0),
+            scatters: self.scatters.replace(0),
+            gathers: self.gathers.replace(0),
+        }
     }
 }
 
@@ -42,9 +55,9 @@ fn count(cell: &Cell<u32>) {
 
 /// A group, and where its calls are counted.
 #[derive(Drop)]
-pub(crate) struct Watched<'a, G> {
-    pub(crate) group: G,
-    pub(crate) calls: &'a Calls,
+pub struct Watched<'a, G> {
+    pub group: G,
+    pub calls: &'a Calls,
 }
 
 impl<'a, N: Number, G: Group<N>> Group<N> for Watched<'a, G> {
@@ -80,12 +93,12 @@ impl<'a, N: Number, G: Group<N>> Group<N> for Watched<'a, G> {
     }
 
     fn code_at(&self, i: u32) -> u32 {
-        count(&self.calls.rows);
+        count(&self.calls.codes);
         self.group.code_at(i)
     }
 
     fn read_codes(&self, into: &mut [u32]) {
-        count(&self.calls.rows);
+        count(&self.calls.codes);
         self.group.read_codes(into)
     }
 
@@ -105,7 +118,7 @@ impl<'a, N: Number, G: Group<N>> Group<N> for Watched<'a, G> {
     }
 
     fn gather(&self, rows: &[N], into: &mut [Wide]) {
-        count(&self.calls.scatters);
+        count(&self.calls.gathers);
         self.group.gather(rows, into)
     }
 
