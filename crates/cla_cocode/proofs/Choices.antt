@@ -1,5 +1,6 @@
 -- The greatest of savings and the first place where it stands, found one by one.
-use Rattle.std.proofs.Common.{◌≡◌, ℕ, ◌+◌, ◌-◌, ◌<◌, ◌≤◌, false, cond, not, eqb, eq-eqb, nat_lt, lt-ltb, max, List, [], ◌∷◌, drop, length, refl, sym, ap, ◌∙◌, subst, arith, inl, inr}
+use Rattle.std.proofs.Common.{◌≡◌, ℕ, ◌+◌, ◌-◌, ◌<◌, ◌≤◌, false, cond, not, eqb, eq-eqb, nat_lt, lt-ltb, max, List, []}
+use Rattle.std.proofs.Common.{◌∷◌, drop, length, refl, sym, ap, ◌∙◌, subst, arith, inl, inr}
 use Rattle.std.specs.List.{position_or_len}
 use Rattle.std.proofs.lemmas.Bool.{cases_lt, ne_eqb}
 use Rattle.cla_grouping.specs.Grouping.{greatest, window}
@@ -27,11 +28,16 @@ max_left a b h = omega (arith, h)
 pub choice_stays : (at : ℕ) (ss : List ℕ) (best : Chosen) → greatest ss ≤ best.saving → choice_from at ss best ≡ best
 choice_stays at [] best h = refl
 choice_stays at (s ∷ ss) best h =
-    ap (λ b. choice_from (at + 1) ss (cond b (record { place = at; saving = s }) best)) (not_less best.saving s (omega (arith, h)))
+    ap (λ b. choice_from (at + 1) ss (cond b (record {
+      place = at;
+      saving =
+          s;
+    }) best)) (not_less best.saving s (omega (arith, h)))
     ∙ choice_stays (at + 1) ss best (omega (arith, h))
 
 -- the first place of the greatest, where it is not the first saving
-pub later : (s : ℕ) (ss : List ℕ) (at : ℕ) → s < greatest ss → (max s (greatest ss) ≡ greatest ss) × (at + 1 + first_place ss (greatest ss) ≡ at + first_place (s ∷ ss) (max s (greatest ss)))
+pub later : (s : ℕ) (ss : List ℕ) (at : ℕ) → s < greatest ss → (max s (greatest ss) ≡ greatest ss)
+    × (at + 1 + first_place ss (greatest ss) ≡ at + first_place (s ∷ ss) (max s (greatest ss)))
 later s ss at h =
     let most : max s (greatest ss) ≡ greatest ss = max_right s (greatest ss) (omega (arith, h)) in
     let other : eqb s (greatest ss) ≡ false = ne_eqb s (greatest ss) (λ e. omega (arith, e, h)) in
@@ -40,7 +46,8 @@ later s ss at h =
     (most, omega (arith, place))
 
 -- the first saving is the greatest
-pub first : (s : ℕ) (ss : List ℕ) (at : ℕ) → greatest ss ≤ s → (max s (greatest ss) ≡ s) × (at ≡ at + first_place (s ∷ ss) (max s (greatest ss)))
+pub first : (s : ℕ) (ss : List ℕ) (at : ℕ) → greatest ss ≤ s → (max s (greatest ss) ≡ s)
+    × (at ≡ at + first_place (s ∷ ss) (max s (greatest ss)))
 first s ss at h =
     let most : max s (greatest ss) ≡ s = max_left s (greatest ss) h in
     let place : first_place (s ∷ ss) (max s (greatest ss)) ≡ 0 =
@@ -51,7 +58,8 @@ abbrev IsMoved : ℕ → List ℕ → Chosen → Type 0
 IsMoved at ss c = (c.saving ≡ greatest ss) × (c.place ≡ at + first_place ss (greatest ss))
 
 -- else it is the greatest, at its first place
-pub choice_moves : (at : ℕ) (ss : List ℕ) (best : Chosen) → best.saving < greatest ss → IsMoved at ss (choice_from at ss best)
+pub choice_moves : (at : ℕ) (ss : List ℕ) (best : Chosen) → best.saving < greatest ss
+    → IsMoved at ss (choice_from at ss best)
 choice_moves at [] best h = absurd (omega (arith, h))
 choice_moves at (s ∷ ss) best h = elim (cases_lt best.saving s) [
   | inl rises ↦
@@ -78,15 +86,26 @@ choice_moves at (s ∷ ss) best h = elim (cases_lt best.saving s) [
 
 -- the choice among the last groups
 pub chosen : (savings : List ℕ) (groups : ℕ) (c : Chosen) → length savings ≡ groups → (0 < c.saving → c.place < groups)
-    → c ≡ choice_from (groups - window) (drop (groups - window) savings) (record { place = 0; saving = 0 }) → IsChosen groups savings c
+    → c ≡ choice_from (groups - window) (drop (groups - window) savings) (record { place = 0; saving = 0 })
+    → IsChosen groups savings c
 chosen savings groups c count within is = subst (λ n. IsChosen n savings c) count (elim (cases_lt 0 (greatest last)) [
   | inl some ↦
       let moved = choice_moves from last none some in
-      record { saving = ap (λ (x : Chosen). x.saving) same ∙ moved.0; place = λ _. ap (λ (x : Chosen). x.place) same ∙ moved.1; within = fits }
+      record {
+        saving = ap (λ (x : Chosen). x.saving) same ∙ moved.0;
+        place = λ _. ap (λ (x : Chosen). x.place) same
+            ∙ moved.1;
+        within = fits;
+      }
   | inr nothing ↦
       let stays = choice_stays from last none nothing in
       let zero_is : c.saving ≡ 0 = ap (λ (x : Chosen). x.saving) same ∙ ap (λ (x : Chosen). x.saving) stays in
-      record { saving = omega (arith, zero_is, nothing); place = λ h. absurd (omega (arith, h, zero_is)); within = fits }
+      record {
+        saving = omega (arith, zero_is, nothing);
+        place = λ h. absurd (omega (arith, h, zero_is));
+        within =
+            fits;
+      }
 ])
   where
     from : ℕ

@@ -1,5 +1,6 @@
 -- Figures of columns, counted row by row.
-use Rattle.std.proofs.Common.{◌≡◌, ℕ, ◌+◌, ◌*◌, ◌≤◌, Bool, cond, length, sym, ap, ◌∙◌, arith, Option, Some, None, inl, inr, mul-le-mul_right, mul-le-mul_left}
+use Rattle.std.proofs.Common.{◌≡◌, ℕ, ◌+◌, ◌*◌, ◌≤◌, Bool, cond, length, sym, ap, ◌∙◌, arith, Option, Some, None, inl}
+use Rattle.std.proofs.Common.{inr, mul-le-mul_right, mul-le-mul_left}
 use Rattle.std.proofs.lemmas.Bool.{cases_Bool}
 use Rattle.std.proofs.lemmas.List.{length_push}
 use Rattle.cla_spec.specs.Matrix.{most_cells}
@@ -9,10 +10,13 @@ use Rattle.cla_grouping.specs.Tuples.{TuplesOf, AreTuples}
 use Rattle.cla_grouping.specs.Sizes.{AreSmall, figures_of, listed_of, is_listed, begins_listed}
 
 -- one more row
-pub rows_more : (test : ℕ → Bool) (i : ℕ) → length (rows_where test (i + 1)) ≡ length (rows_where test i) + cond (test i) 1 0
+pub rows_more : (test : ℕ → Bool) (i : ℕ) → length (rows_where test (i + 1))
+    ≡ length (rows_where test i) + cond (test i) 1 0
 rows_more test i = elim (cases_Bool (test i)) [
-  | inl holds ↦ ap length (rows_where_yes test i holds) ∙ length_push (rows_where test i) i ∙ ap (λ b. length (rows_where test i) + cond b 1 0) (sym holds)
-  | inr fails ↦ ap length (rows_where_no test i fails) ∙ omega arith ∙ ap (λ b. length (rows_where test i) + cond b 1 0) (sym fails)
+  | inl holds ↦ ap length (rows_where_yes test i holds) ∙ length_push (rows_where test i) i
+      ∙ ap (λ b. length (rows_where test i) + cond b 1 0) (sym holds)
+  | inr fails ↦ ap length (rows_where_no test i fails) ∙ omega arith
+      ∙ ap (λ b. length (rows_where test i) + cond b 1 0) (sym fails)
 ]
 
 listed-few : (zero : Option ℕ) (distinct : ℕ) → listed_of zero distinct ≤ distinct

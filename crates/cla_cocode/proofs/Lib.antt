@@ -6,6 +6,9 @@ mod Placed
 mod Finished
 mod Taken
 mod Unions
+mod Marks
+mod Distinct
+mod Few
 mod PartLemmas
 mod Partition
 mod Forms

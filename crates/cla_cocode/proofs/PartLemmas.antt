@@ -1,5 +1,7 @@
 -- Groups that are built of the tuples of columns hold the entries of the columns.
-use Rattle.std.proofs.Common.{◌≡◌, ℕ, ℤ, pos, zero, suc, ◌+◌, ◌-◌, ◌*◌, ◌/◌, ◌<◌, ◌≤◌, Bool, true, false, ◌&&◌, ◌==◌, eq-eqb, List, [], ◌∷◌, ◌++◌, length, refl, sym, ap, ◌∙◌, subst, arith, length-append, inl, inr}
+use Rattle.std.proofs.Common.{◌≡◌, ℕ, ℤ, pos, zero, suc, ◌+◌, ◌-◌, ◌*◌, ◌/◌, ◌<◌, ◌≤◌, Bool, true, false, ◌&&◌, ◌==◌}
+use Rattle.std.proofs.Common.{eq-eqb, List, [], ◌∷◌, ◌++◌, length, refl, sym, ap, ◌∙◌, subst, arith, length-append, inl}
+use Rattle.std.proofs.Common.{inr}
 use Rattle.std.specs.List.{range_with_len}
 use Rattle.std.specs.Ordering.{int_eq}
 use Rattle.std.proofs.lemmas.Bool.{cases_lt}
@@ -41,14 +43,17 @@ occurs codes k i row is =
     omega (arith, place.0, rows_of_count codes k)
 
 -- each tuple is the code of some row
-pub used : (m : Matrix) (columns : List ℕ) (k : ℕ) → k < (tuples_in m columns).distinct → 0 < occurrences_of (tuples_in m columns).codes k
+pub used : (m : Matrix) (columns : List ℕ) (k : ℕ) → k < (tuples_in m columns).distinct
+    → 0 < occurrences_of (tuples_in m columns).codes k
 used m columns k there =
     let same = same_tuple m columns in
     let row = codes-used same [] (range_with_len 0 m.rows) k (omega arith) there in
-    occurs (codes_by same m.rows) k row.0 (omega (arith, row.1, length-range_with_len 0 m.rows, length-codes_by same m.rows)) row.2
+    occurs (codes_by same m.rows) k row.0
+    (omega (arith, row.1, length-range_with_len 0 m.rows, length-codes_by same m.rows)) row.2
 
 -- the first rows are rows
-pub first_rows-within : (m : Matrix) (columns counts rows : List ℕ) → AreCounted (tuples_in m columns).codes (tuples_in m columns).distinct counts rows
+pub first_rows-within : (m : Matrix) (columns counts rows : List ℕ)
+    → AreCounted (tuples_in m columns).codes (tuples_in m columns).distinct counts rows
     → (k : ℕ) → k < length rows → code_of rows k < m.rows
 first_rows-within m columns counts rows are k there =
     let codes = (tuples_in m columns).codes in
@@ -57,7 +62,8 @@ first_rows-within m columns counts rows are k there =
     omega (arith, are.first_row k lt, row, length-codes_by (same_tuple m columns) m.rows)
 
 -- there are as many values as columns in each row
-pub values-count : (m : Matrix) (columns rows : List ℕ) → length (values_in_rows m columns rows) ≡ length rows * length columns
+pub values-count : (m : Matrix) (columns rows : List ℕ) → length (values_in_rows m columns rows)
+    ≡ length rows * length columns
 values-count m columns [] = omega arith
 values-count m columns (row ∷ rows) =
     length-append (tuple_in_row m columns row) (values_in_rows m columns rows)
@@ -82,7 +88,8 @@ values-at m columns (row ∷ rows) zero c there place =
 values-at m columns (row ∷ rows) (suc k) c there place =
     let first = tuple_in_row m columns row in
     let count : length first ≡ length columns = length-map columns (entry m row) in
-    get_or-append_right first (values_in_rows m columns rows) (length columns) (suc k * length columns + c) (pos 0) count (past k (length columns) c)
+    get_or-append_right first (values_in_rows m columns rows) (length columns) (suc k * length columns + c)
+    (pos 0) count (past k (length columns) c)
     ∙ ap (at (values_in_rows m columns rows)) (less k (length columns) c)
     ∙ values-at m columns rows k c (omega (arith, there)) place
   where
@@ -96,13 +103,15 @@ values-at m columns (row ∷ rows) (suc k) c there place =
 same-entry : (m : Matrix) (columns : List ℕ) (i j c : ℕ) → same_tuple m columns i j ≡ true → c < length columns
     → entry m i (code_of columns c) ≡ entry m j (code_of columns c)
 same-entry m [] i j c h place = absurd (omega (arith, place))
-same-entry m (column ∷ columns) i j zero h place = (Decides-int_eq (entry m i column) (entry m j column)).0 (and_left _ _ h)
+same-entry m (column ∷ columns) i j zero h place = (Decides-int_eq (entry m i column) (entry m j column)).0
+    (and_left _ _ h)
 same-entry m (column ∷ columns) i j (suc c) h place =
     same-entry m columns i j c (and_right (int_eq (entry m i column) (entry m j column)) _ h) (omega (arith, place))
 
 -- the values of first rows are those of all rows
 pub cells-are : (m : Matrix) (columns counts rows : List ℕ) (n : ℕ) (values : List ℤ) → AreTuples (tuples_in m columns)
-    → AreCounted (tuples_in m columns).codes (tuples_in m columns).distinct counts rows → values ≡ values_in_rows m columns rows → n ≡ (tuples_in m columns).distinct
+    → AreCounted (tuples_in m columns).codes (tuples_in m columns).distinct counts rows → values
+    ≡ values_in_rows m columns rows → n ≡ (tuples_in m columns).distinct
     → HasEntries m columns (tuples_in m columns).codes (tuples_of (length columns) n values)
 cells-are m columns counts rows n values are counted is count i c row place =
     let same = same_tuple m columns in
@@ -113,7 +122,8 @@ cells-are m columns counts rows n values are counted is count i c row place =
     let some = used m columns k below in
     let first = first_row_of codes k in
     let there : first < m.rows = omega (arith, first_row_there codes k some, long) in
-    let alike : same first i ≡ true = sym (same-code same (same_tuple-equiv m columns) m.rows first i there row) ∙ eq-eqb _ _ (code_of_first_row codes k some) in
+    let alike : same first i ≡ true = sym (same-code same (same_tuple-equiv m columns) m.rows first i there row)
+    ∙ eq-eqb _ _ (code_of_first_row codes k some) in
     tuple_value (length columns) n values k c (omega (arith, below, count)) place
     ∙ ap (λ v. at v (k * length columns + c)) is
     ∙ values-at m columns rows k c (omega (arith, below, counted.a_row_each)) place
@@ -124,7 +134,8 @@ cells-are m columns counts rows n values are counted is count i c row place =
 pub tuples-count : (d w n : ℕ) → 1 ≤ w → n ≡ d * w → n / w ≡ d
 tuples-count d w n some is = ap (λ x. x / w) (omega (arith, is)) ∙ div-mul-add d w 0 some
 
-pub are-codes : (m : Matrix) (columns : List ℕ) (n : ℕ) → AreTuples (tuples_in m columns) → n ≡ (tuples_in m columns).distinct * length columns
+pub are-codes : (m : Matrix) (columns : List ℕ) (n : ℕ) → AreTuples (tuples_in m columns) → n
+    ≡ (tuples_in m columns).distinct * length columns
     → AreCodes (length columns) (n / length columns) (tuples_in m columns).codes n
 are-codes m columns n are is =
     let count = tuples-count (tuples_in m columns).distinct (length columns) n are.a_column is in
@@ -138,26 +149,34 @@ are-codes m columns n are is =
     }
 
 -- a group of these codes has as many rows, and the same cells
-pub has-rows : (k : Kind) (codes : List ℕ) (tuples : List (List ℤ)) (codes' : List ℕ) (tuples' : List (List ℤ)) (width : ℕ)
+pub has-rows : (k : Kind) (codes : List ℕ) (tuples : List (List ℤ)) (codes' : List ℕ) (tuples' : List (List ℤ))
+    (width : ℕ)
     → HasCodes k codes tuples codes' tuples' width → length codes' ≡ length codes
 has-rows kind.Plain codes tuples codes' tuples' width has = ap length has.0 ∙ rows_count (length codes)
 has-rows kind.Codes codes tuples codes' tuples' width has = ap length has.0
 has-rows kind.Offsets codes tuples codes' tuples' width has = ap length has.0
 has-rows kind.Runs codes tuples codes' tuples' width has = ap length has.0
 
-same-cells : (codes : List ℕ) (tuples : List (List ℤ)) (codes' : List ℕ) (tuples' : List (List ℤ)) (i c : ℕ) → codes' ≡ codes → tuples' ≡ tuples
+same-cells : (codes : List ℕ) (tuples : List (List ℤ)) (codes' : List ℕ) (tuples' : List (List ℤ)) (i c : ℕ) → codes'
+    ≡ codes → tuples' ≡ tuples
     → cell_of codes' tuples' i c ≡ cell_of codes tuples i c
 same-cells codes tuples codes' tuples' i c h k = ap (λ x. cell_of x tuples' i c) h ∙ ap (λ t. cell_of codes t i c) k
 
-pub has-cells : (k : Kind) (codes : List ℕ) (tuples : List (List ℤ)) (codes' : List ℕ) (tuples' : List (List ℤ)) (width i c : ℕ)
-    → HasCodes k codes tuples codes' tuples' width → i < length codes → c < width → cell_of codes' tuples' i c ≡ cell_of codes tuples i c
+pub has-cells : (k : Kind) (codes : List ℕ) (tuples : List (List ℤ)) (codes' : List ℕ) (tuples' : List (List ℤ))
+    (width i c : ℕ)
+    → HasCodes k codes tuples codes' tuples' width → i < length codes → c < width → cell_of codes' tuples' i c
+    ≡ cell_of codes tuples i c
 has-cells kind.Plain codes tuples codes' tuples' width i c has row place = has.1 i c row place
-has-cells kind.Codes codes tuples codes' tuples' width i c has row place = same-cells codes tuples codes' tuples' i c has.0 has.1
-has-cells kind.Offsets codes tuples codes' tuples' width i c has row place = same-cells codes tuples codes' tuples' i c has.0 has.1
-has-cells kind.Runs codes tuples codes' tuples' width i c has row place = same-cells codes tuples codes' tuples' i c has.0 has.1
+has-cells kind.Codes codes tuples codes' tuples' width i c has row place =
+    same-cells codes tuples codes' tuples' i c has.0 has.1
+has-cells kind.Offsets codes tuples codes' tuples' width i c has row place =
+    same-cells codes tuples codes' tuples' i c has.0 has.1
+has-cells kind.Runs codes tuples codes' tuples' width i c has row place =
+    same-cells codes tuples codes' tuples' i c has.0 has.1
 
 -- one more part
-pub built-push : (P : LayoutPart → Type 0) (parts : List LayoutPart) (p : LayoutPart) → ((q : ℕ) → q < length parts → P (part_at parts q)) → P p
+pub built-push : (P : LayoutPart → Type 0) (parts : List LayoutPart) (p : LayoutPart)
+    → ((q : ℕ) → q < length parts → P (part_at parts q)) → P p
     → (q : ℕ) → q < length (parts ++ p ∷ []) → P (part_at (parts ++ p ∷ []) q)
 built-push P parts p each last q there = elim (cases_lt q (length parts)) [
   | inl inner ↦ subst P (sym (get_or_append_left parts (p ∷ []) no_part q inner)) (each q inner)

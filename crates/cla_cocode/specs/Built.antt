@@ -14,7 +14,8 @@ values_in_rows m columns (row ∷ rows) = tuple_in_row m columns row ++ values_i
 
 -- a group holds the entries of these columns
 abbrev pub HasEntries : Matrix → List ℕ → List ℕ → List (List ℤ) → Type 0
-HasEntries m columns codes tuples = (i c : ℕ) → i < m.rows → c < length columns → cell_of codes tuples i c ≡ entry m i (code_of columns c)
+HasEntries m columns codes tuples = (i c : ℕ) → i < m.rows → c < length columns → cell_of codes tuples i c
+    ≡ entry m i (code_of columns c)
 
 -- a part of a matrix: a group of its columns that holds their entries
 pub record IsBuilt (bits : ℕ) (m : Matrix) (part : LayoutPart) : Type 0 where

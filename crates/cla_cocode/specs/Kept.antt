@@ -1,16 +1,19 @@
 -- Groups that are being made: their tuples and their best kinds are those of their columns, counted from the matrix.
-use Rattle.std.specs.Prelude.{◌≡◌, ℕ, ◌+◌, ◌-◌, ◌<◌, ◌≤◌, ◌^◌, All, List, [], ◌∷◌, ◌++◌, length, map, nat_lt, if◌then◌else◌}
+use Rattle.std.specs.Prelude.{◌≡◌, ℕ, ◌+◌, ◌-◌, ◌<◌, ◌≤◌, ◌^◌, All, List, [], ◌∷◌, ◌++◌, length, map, nat_lt}
+use Rattle.std.specs.Prelude.{if◌then◌else◌}
 use Rattle.cla_spec.specs.Matrix.{Matrix}
 use Rattle.cla_grouping.specs.Tuples.{tuples_in, joined}
 use Rattle.cla_grouping.specs.Sizes.{figures_of, best_of, best_bytes, IsLeast}
 use Rattle.cla_grouping.specs.Grouping.{GroupOf, best_in, choice_of}
+use Rattle.cla_cocode.specs.Listing.{IsListing}
 use Rattle.cla_cocode.specs.declared.kept.Kept.{Kept}
 use Rattle.cla_cocode.specs.declared.choice.Chosen.{Chosen}
 
--- bytes that may be added, and the figures of the tuples
+-- bytes that may be added, the figures of the tuples, and the rows that they list, where these are kept
 pub record IsFit (k : Kept) : Type 0 where
   pub small : k.best.bytes < 2 ^ 30
   pub figures : k.figures ≡ figures_of k.tuples
+  pub listing : IsListing k.tuples k.listing
 
 -- a group is counted from the matrix
 pub record IsCounted (m : Matrix) (k : Kept) : Type 0 where

@@ -1,11 +1,13 @@
 -- What the union of two groups of columns would be, by the pairs of their codes.
-use Rattle.std.specs.Prelude.{◌≡◌, ℕ, ◌+◌, ◌-◌, ◌<◌, ◌≤◌, List, length, Bool, not, ◌&&◌, ◌||◌, ◌==◌, nat_lt, max, Option, Some, None, if◌then◌else◌}
+use Rattle.std.specs.Prelude.{◌≡◌, ℕ, ◌+◌, ◌-◌, ◌<◌, ◌≤◌, List, [], length, map, Bool, not, ◌&&◌, ◌||◌, ◌==◌}
+use Rattle.std.specs.Prelude.{nat_lt, nat_eq, max, Option, Some, None, if◌then◌else◌}
 use Rattle.cla_layout.specs.Groups.{code_of}
 use Rattle.cla_layout.specs.Listed.{is_rest, rows_where}
-use Rattle.cla_grouping.specs.Numbering.{same_pair, first_rows_by}
+use Rattle.cla_grouping.specs.Numbering.{same_pair, first_rows_by, firsts_from}
 use Rattle.cla_grouping.specs.Tuples.{TuplesOf}
-use Rattle.cla_grouping.specs.Sizes.{figures_of}
+use Rattle.cla_grouping.specs.Sizes.{figures_of, best_bytes}
 use Rattle.cla_grouping.specs.declared.sizes.Figures.{Figures}
+use Rattle.cla_numbering.specs.Tables.{place_at}
 
 -- a number of tuples, unless it is above the most that are asked for
 abbrev pub CountGives : ℕ → ℕ → Option ℕ → Type 0
@@ -17,9 +19,18 @@ abbrev pub SavingGives : ℕ → ℕ → Option ℕ → Type 0
 SavingGives least saving None = saving ≤ least
 SavingGives least saving (Some s) = s ≡ saving
 
+-- the bytes of a group with these tuples, unless they are no fewer than the target
+abbrev pub BytesGive : ℕ → TuplesOf → Option ℕ → Type 0
+BytesGive target t None = target ≤ best_bytes (figures_of t)
+BytesGive target t (Some bytes) = bytes ≡ best_bytes (figures_of t)
+
 -- how many pairs of tuples there are
 abbrev pub pairs_of : TuplesOf → TuplesOf → ℕ
 pairs_of a b = length (first_rows_by (same_pair a.codes b.codes) (length a.codes))
+
+-- how many different pairs these rows have, by the places of the pairs in a table
+abbrev pub pairs_in : List ℕ → List ℕ → ℕ → List ℕ → ℕ
+pairs_in a b wide rows = length (firsts_from nat_eq [] (map (place_at a b wide) rows))
 
 -- whether row i has a pair that is listed: any but the pair of zeros
 abbrev pub is_listed_pair : Option ℕ → List ℕ → Option ℕ → List ℕ → ℕ → Bool

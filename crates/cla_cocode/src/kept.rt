@@ -8,19 +8,22 @@ ghost use Rattle.cla_cocode.specs.Kept.{IsCounted, IsJoined, IsFit, code_saving}
 ghost use Rattle.cla_cocode.specs.Weighing.{SavingGives};
 
 use crate::figures::{best_kind, figures};
-use crate::weigh::{count, floor, least_union, with_distinct};
-use cla_grouping::{Figures, KindBytes, best, most_tuples};
+use crate::listing::few_listed;
+use crate::union::weigh;
+use cla_grouping::{Figures, KindBytes};
 use cla_num::Memory;
 use cla_stats::Tuples;
 use std::alloc::Global;
 
-/// Columns as one group, their tuples, the figures of these, and their best kind.
+/// Columns as one group, their tuples, the figures of these, their best kind, and the rows that are listed,
+/// where they are few.
 #[derive(Drop)]
 pub struct Kept {
     pub columns: Vec<u32>,
     pub tuples: Tuples,
     pub figures: Figures,
     pub best: KindBytes,
+    pub listing: Option<Vec<u32>>,
 }
 
 /// A column by itself, with these tuples.
@@ -31,11 +34,13 @@ pub(crate) fn alone(alloc: Global, column: u32, tuples: Tuples) -> Result<Kept, 
     let columns = vec![in alloc; column]?;
     let figures = figures(&tuples);
     let best = best_kind(figures);
+    let listing = few_listed(alloc, &tuples, figures)?;
     Ok(Kept {
         columns,
         tuples,
         figures,
         best,
+        listing,
     })
 }
 
@@ -52,6 +57,7 @@ pub(crate) fn take_in(
     let tuples = Tuples::join(alloc, &group.tuples, &single.tuples)?;
     group.columns.push(column)?;
     let figures = figures(&tuples);
+    group.listing = few_listed(alloc, &tuples, figures)?;
     group.best = best_kind(figures);
     group.figures = figures;
     group.tuples = tuples;
@@ -59,9 +65,6 @@ pub(crate) fn take_in(
 }
 
 /// The bytes that a group saves by taking in a column, or nothing where they are no more than `least`.
-/// The union is weighed by how many pairs of tuples there are and how many rows and runs are listed, and
-/// its codes are not written. It has no fewer listed rows and runs than either part, and with more pairs
-/// than could still save anything it isn't counted to the end.
 pub(crate) fn saving(
     alloc: Global,
     group: &Kept,
@@ -77,12 +80,8 @@ pub(crate) fn saving(
     if apart <= least {
         return Ok(None);
     }
-    let bound = least_union(&group.tuples, group.figures, &single.tuples, single.figures);
-    let most = most_tuples(bound, apart - least);
-    let Some(distinct) = count(alloc, &group.tuples, &single.tuples, most)? else {
+    let Some(together) = weigh(alloc, group, single, apart - least)? else {
         return Ok(None);
     };
-    let floor = floor(&group.tuples, &single.tuples);
-    let joined = best(with_distinct(floor, distinct));
-    Ok(Some(apart.saturating_sub(joined.bytes)))
+    Ok(Some(apart.saturating_sub(together)))
 }

@@ -8,7 +8,9 @@ mod cut;
 mod figures;
 mod kept;
 mod layouts;
+mod listing;
 mod pairs;
+mod union;
 mod values;
 mod weigh;
 

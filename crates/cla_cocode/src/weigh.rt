@@ -1,15 +1,18 @@
 //! What the union of two groups of columns would take, weighed without its codes.
 
 ghost use Rattle.std.specs.Prelude.{◌≡◌, ◌<◌, ◌≤◌, ◌&&◌, not, ℕ, length, if◌then◌else◌, IfOk};
+ghost use Rattle.std.specs.List.{filter};
 ghost use Rattle.cla_spec.specs.Matrix.{most_cells};
 ghost use Rattle.cla_layout.specs.Listed.{is_rest, rows_where};
 ghost use Rattle.cla_grouping.specs.Sizes.{AreSmall, figures_of};
 ghost use Rattle.cla_grouping.specs.Tuples.{AreTuples};
 ghost use Rattle.cla_stats.specs.Coded.{CanJoin};
-ghost use Rattle.cla_cocode.specs.Weighing.{CountGives, is_listed_pair, begins_pair, floor_of, least_of, with_distinct_of};
-ghost use Rattle.cla_cocode.specs.Weighing.{pairs_of};
+ghost use Rattle.cla_numbering.specs.Tables.{AreBelow};
+ghost use Rattle.cla_cocode.specs.Weighing.{CountGives, is_listed_pair, begins_pair, floor_of, least_of};
+ghost use Rattle.cla_cocode.specs.Weighing.{with_distinct_of, pairs_of};
+ghost use Rattle.cla_cocode.specs.Listing.{either_of};
 
-use crate::pairs::count_pairs;
+use crate::pairs::{count_pairs, count_pairs_in};
 use cla_grouping::Figures;
 use cla_num::Memory;
 use cla_stats::Tuples;
@@ -64,6 +67,26 @@ pub(crate) fn floor(a: &Tuples, b: &Tuples) -> Figures
     }
 }
 
+/// The same, of groups that list these rows alone. It goes over them once.
+pub(crate) fn floor_in(a: &Tuples, b: &Tuples, rows: &[u32]) -> Figures
+    requires pair { CanJoin a.now b.now }
+    requires rows { rows.now ≡ either_of a.now b.now }
+    ensures value { result ≡ floor_of a.now b.now }
+    ensures small { AreSmall result }
+    ensures first { AreTuples a.now }
+    ensures second { AreTuples b.now }
+{
+    let listed_runs = runs_in(rows, a.codes(), a.zero(), b.codes(), b.zero());
+    Figures {
+        width: a.width() + b.width(),
+        rows: a.rows(),
+        distinct: 0,
+        listed: 0,
+        listed_rows: rows.len() as u32,
+        listed_runs,
+    }
+}
+
 /// The tuples of a union; `None` where there are more than `most`.
 pub(crate) fn count(alloc: Global, a: &Tuples, b: &Tuples, most: u32) -> Result<Option<u32>, Memory>
     requires { CanJoin a.now b.now }
@@ -77,6 +100,33 @@ pub(crate) fn count(alloc: Global, a: &Tuples, b: &Tuples, most: u32) -> Result<
         b.distinct(),
         most,
     )
+}
+
+/// The same, of groups that list these rows alone. The pair of zeros is one more, where a row has it.
+pub(crate) fn count_in(
+    alloc: Global,
+    a: &Tuples,
+    b: &Tuples,
+    rows: &[u32],
+    most: u32,
+) -> Result<Option<u32>, Memory>
+    requires pair { CanJoin a.now b.now }
+    requires rows { rows.now ≡ either_of a.now b.now }
+    ensures { IfOk result (CountGives most (pairs_of a.now b.now)) }
+{
+    let counted = count_pairs_in(
+        alloc,
+        rows,
+        a.codes(),
+        a.distinct(),
+        b.codes(),
+        b.distinct(),
+        most,
+    )?;
+    let Some(listed) = counted else {
+        return Ok(None);
+    };
+    Ok(Some(listed + (rows.len() < a.codes().len()) as u32))
 }
 
 /// The figures with so many tuples. All are listed where all rows are.
@@ -109,6 +159,20 @@ fn listed_pairs(a: &[u32], first: Option<u32>, b: &[u32], second: Option<u32>) -
         runs += listed_run(first, a, second, b, i);
     }
     Listed { rows, runs }
+}
+
+// How many runs of listed pairs begin in these rows.
+fn runs_in(rows: &[u32], a: &[u32], first: Option<u32>, b: &[u32], second: Option<u32>) -> u32
+    requires below { AreBelow (length a.now) rows.now }
+    requires rows { length b.now ≡ length a.now }
+    requires few { length rows.now ≤ most_cells }
+    ensures { result ≡ length (filter (begins_pair first a.now second b.now) rows.now) }
+{
+    let mut runs = 0;
+    for row in rows {
+        runs += listed_run(first, a, second, b, *row as usize);
+    }
+    runs
 }
 
 // 1 where the pair of row i is listed, else 0.

@@ -66,6 +66,53 @@ fn equal_columns_are_one_group(rt: HostRuntime) -> Result<(), Fail> {
     Ok(())
 }
 
+// Sevens in ten rows of a thousand, and else zeros: a column takes 14 bytes, 10 for its tuple and 20 for its
+// rows. Two columns with the same rows take 18, 18 and 20 together. Where the second column has its sevens
+// a row lower, there are two tuples and twenty rows, and 18, 36 and 40 are more than twice 44.
+#[test]
+fn sparse_columns(rt: HostRuntime) -> Result<(), Fail> {
+    let mut cells = [0; 2000];
+    for (place, cell) in cells.iter_mut().enumerate() {
+        if place / 2 % 100 == 50 {
+            *cell = 7;
+        }
+    }
+    let found = packed_of(rt.alloc(), 1000, 2, &cells)?;
+    assert_eq!(rt; found, (Some((1, Kind::Offsets, 1, 2, 56)), 76));
+    let mut cells = [0; 2000];
+    for (place, cell) in cells.iter_mut().enumerate() {
+        if place / 2 % 100 == 50 + place % 2 {
+            *cell = 7;
+        }
+    }
+    let found = packed_of(rt.alloc(), 1000, 2, &cells)?;
+    assert_eq!(rt; found, (Some((2, Kind::Offsets, 0, 1, 44)), 108));
+    Ok(())
+}
+
+// The same with the ten rows in a run: a column takes 14 bytes and 20 for its tuple and the run, and two with
+// the same run take 18 and 28. A row lower there are three tuples, and as offsets 18, 54 and 22 bytes.
+#[test]
+fn sparse_runs(rt: HostRuntime) -> Result<(), Fail> {
+    let mut cells = [0; 2000];
+    for (place, cell) in cells.iter_mut().enumerate() {
+        if place / 2 / 10 == 50 {
+            *cell = 7;
+        }
+    }
+    let found = packed_of(rt.alloc(), 1000, 2, &cells)?;
+    assert_eq!(rt; found, (Some((1, Kind::Runs, 1, 2, 46)), 66));
+    let mut cells = [0; 2000];
+    for (place, cell) in cells.iter_mut().enumerate() {
+        if (place / 2 + 1 - place % 2) / 10 == 50 {
+            *cell = 7;
+        }
+    }
+    let found = packed_of(rt.alloc(), 1000, 2, &cells)?;
+    assert_eq!(rt; found, (Some((2, Kind::Runs, 0, 1, 34)), 88));
+    Ok(())
+}
+
 // As offsets, a head of 5 bytes, 4 for each column, and 5 before the lists, of which zeros have none. One
 // column more is too many to be grouped, and then each cell takes 8 bytes.
 #[test]

@@ -31,18 +31,26 @@ loop-group-preserved g c =
     let made = c.in_ok-built_part.ensures in
     let is : IsBuilt g.N.Number.BITS c.args.m.now (part_of any_codes any_dictionary next) = record {
       a_code_each = made.rows;
-      group = subst (λ cs. IsGroup g.N.Number.BITS (length cs) (any_codes next.group) (any_dictionary next.group)) (sym made.columns) made.group;
-      entries = subst (λ cs. HasEntries c.args.m.now cs (any_codes next.group) (any_dictionary next.group)) (sym made.columns) made.entries;
+      group = subst (λ cs. IsGroup g.N.Number.BITS (length cs) (any_codes next.group) (any_dictionary next.group))
+          (sym made.columns) made.group;
+      entries = subst (λ cs. HasEntries c.args.m.now cs (any_codes next.group) (any_dictionary next.group))
+          (sym made.columns) made.entries;
     } in
     rw c.in_ok-push.ensures.items (record {
-      columns = mapped_more (λ (x : LayoutGroup). x.columns.items) (λ p. p.columns.items) groups i c.group-item.result done next there c.group-item.is
+      columns = mapped_more (λ (x : LayoutGroup). x.columns.items)
+          (λ p. p.columns.items) groups i c.group-item.result done next there c.group-item.is
           c.loop-group.invariant.columns (made.columns ∙ c.deref.ensures.value);
-      kinds = mapped_more (λ (x : LayoutGroup). x.kind) (λ p. (any_form p.group).kind) groups i c.group-item.result done next there c.group-item.is
+      kinds = mapped_more (λ (x : LayoutGroup). x.kind) (λ p. (any_form p.group).kind) groups i c.group-item.result done
+          next there c.group-item.is
           c.loop-group.invariant.kinds made.kind;
-      built = subst (AreBuilt g.N.Number.BITS c.args.m.now) (sym (map-append (part_of any_codes any_dictionary) done (next ∷ [])))
-          (built-push (IsBuilt g.N.Number.BITS c.args.m.now) (parts_of any_codes any_dictionary done) _ c.loop-group.invariant.built is);
-      in_form = subst (λ fs. AreInForm fs (parts_of any_codes any_dictionary (done ++ next ∷ []))) (sym (map-append (λ p. any_form p.group) done (next ∷ [])))
+      built = subst (AreBuilt g.N.Number.BITS c.args.m.now)
+          (sym (map-append (part_of any_codes any_dictionary) done (next ∷ [])))
+          (built-push (IsBuilt g.N.Number.BITS c.args.m.now) (parts_of any_codes any_dictionary done) _
+          c.loop-group.invariant.built is);
+      in_form = subst (λ fs. AreInForm fs (parts_of any_codes any_dictionary (done ++ next ∷ [])))
+          (sym (map-append (λ p. any_form p.group) done (next ∷ [])))
           (subst (AreInForm _) (sym (map-append (part_of any_codes any_dictionary) done (next ∷ [])))
           (form-push (map (λ p. any_form p.group) done) (parts_of any_codes any_dictionary done) _ _
-          (length-map done (λ p. any_form p.group) ∙ sym (length-map done (part_of any_codes any_dictionary))) c.loop-group.invariant.in_form made.in_form));
+          (length-map done (λ p. any_form p.group) ∙ sym (length-map done (part_of any_codes any_dictionary)))
+          c.loop-group.invariant.in_form made.in_form));
     })

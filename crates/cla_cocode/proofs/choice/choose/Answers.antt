@@ -14,10 +14,12 @@ loop-k-preserved c =
     let k = c.loop-k.k in
     let item = c.index-groups-k.result in
     let next : suc k ≡ k + 1 = omega arith in
-    let left = drop-cons groups k item c.loop-k-test.true ∙ ap (λ (g : Kept). g ∷ drop (suc k) groups) (sym c.index-groups-k.is)
+    let left = drop-cons groups k item c.loop-k-test.true ∙ ap (λ (g : Kept). g ∷ drop (suc k) groups)
+    (sym c.index-groups-k.is)
     ∙ ap (λ n. item ∷ drop n groups) next in
     record {
-      choice = ap (choice_from (k + 1) (map saving (drop (k + 1) groups))) (c.better_of-best.ensures.value (saving item) c.in_ok-saving.ensures)
+      choice = ap (choice_from (k + 1) (map saving (drop (k + 1) groups)))
+          (c.better_of-best.ensures.value (saving item) c.in_ok-saving.ensures)
           ∙ sym (ap (λ l. choice_from k (map saving l) c.loop-k.best) left)
           ∙ c.loop-k.invariant.choice;
       within = c.better_of-best.ensures.within (length groups) c.loop-k-test.true c.loop-k.invariant.within;

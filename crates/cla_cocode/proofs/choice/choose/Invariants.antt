@@ -10,6 +10,10 @@ invariant-loop-k l =
     let first = length l.groups - window in
     record {
       choice : choice_from l.k (map (λ g. code_saving g l.single) (drop l.k l.groups)) l.best
-          ≡ choice_from first (map (λ g. code_saving g l.single) (drop first l.groups)) (record { place = 0; saving = 0 });
+          ≡ choice_from first (map (λ g. code_saving g l.single) (drop first l.groups)) (record {
+            place = 0;
+            saving =
+                0;
+          });
       within : 0 < l.best.saving → l.best.place < length l.groups;
     }

@@ -12,5 +12,6 @@ range_more n =
 
 pub loop-column-preserved : goal.loop-column-preserved
 loop-column-preserved c = record {
-  columns = c.in_ok-push.ensures.items ∙ ap (λ l. l ++ c.loop-column.column ∷ []) c.loop-column.invariant.columns ∙ range_more c.loop-column.column;
+  columns = c.in_ok-push.ensures.items ∙ ap (λ l. l ++ c.loop-column.column ∷ []) c.loop-column.invariant.columns
+      ∙ range_more c.loop-column.column;
 }

@@ -12,9 +12,18 @@ returns-then-met-most c =
     let all = places_of a b c.args.wide in
     let rows = c.requires.rows in
     let next = places-drop a b c.args.wide (length a) i c.loop-i-test.true in
-    let whole = firsts_next c.loop-i.seen.keys c.insert_full.new.self.keys (place_at a b c.args.wide i) _ (drop (i + 1) all) all c.loop-i.invariant.firsts next c.in_ok-insert_full.ensures.keys in
+    let whole = firsts_next c.loop-i.seen.keys c.insert_full.new.self.keys (place_at a b c.args.wide i) _
+    (drop (i + 1) all) all c.loop-i.invariant.firsts next c.in_ok-insert_full.ensures.keys in
     let same = firsts-of_places a b c.args.wide (length a) (λ j h. c.requires.second j (omega (arith, rows, h))) in
-    omega (arith, c.if-met-most.true, c.len-met.ensures.len, firsts-more c.insert_full.new.self.keys (drop (i + 1) all), ap length whole, same)
+    omega (
+      arith,
+      c.if-met-most.true,
+      c.len-met.ensures.len,
+      firsts-more c.insert_full.new.self.keys
+          (drop (i + 1) all),
+      ap length whole,
+      same,
+    )
 
 pub loop-i-preserved : goal.loop-i-preserved
 loop-i-preserved c =
@@ -26,7 +35,8 @@ loop-i-preserved c =
     let next = places-drop a b c.args.wide (length a) i c.loop-i-test.true in
     let put = c.in_ok-insert_full.ensures.keys in
     record {
-      firsts = firsts_next c.loop-i.seen.keys c.insert_full.new.self.keys p _ (drop (i + 1) all) all c.loop-i.invariant.firsts next put;
+      firsts = firsts_next c.loop-i.seen.keys c.insert_full.new.self.keys p _
+          (drop (i + 1) all) all c.loop-i.invariant.firsts next put;
       few = with_item-few c.loop-i.seen.keys c.insert_full.new.self.keys p i c.loop-i.invariant.few put;
     }
 
@@ -37,4 +47,6 @@ returns c =
     let rows = c.requires.rows in
     let within = λ (i : ℕ) (h : i < length a). c.requires.second i (omega (arith, rows, h)) in
     let none = places-none a b c.args.wide (length a) c.loop-i.i (omega (arith, c.loop-i-test.false)) in
-    c.len-distinct.ensures.len ∙ ap length (firsts_whole c.loop-i.seen.keys _ (places_of a b c.args.wide) none c.loop-i.invariant.firsts) ∙ firsts-of_places a b c.args.wide (length a) within
+    c.len-distinct.ensures.len
+    ∙ ap length (firsts_whole c.loop-i.seen.keys _ (places_of a b c.args.wide) none c.loop-i.invariant.firsts)
+    ∙ firsts-of_places a b c.args.wide (length a) within

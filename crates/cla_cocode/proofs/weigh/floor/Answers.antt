@@ -12,7 +12,8 @@ returns-clause-small c =
     let xs = c.codes.result.now in
     let ys = c.codes-2.result.now in
     let small = floor-small a b c.codes.ensures.are c.codes-2.ensures.are c.requires in
-    let width : c.width.result + c.width-2.result ≡ a.width + b.width = omega (arith, c.width.ensures, c.width-2.ensures) in
+    let width : c.width.result + c.width-2.result ≡ a.width + b.width =
+    omega (arith, c.width.ensures, c.width-2.ensures) in
     let count = ap length c.codes.ensures.codes in
     record {
       wide = omega (arith, width, small.wide);
@@ -21,6 +22,20 @@ returns-clause-small c =
           (subst (λ w. length a.codes * w ≤ most_cells) (sym width) small.cells);
       distinct = omega arith;
       listed = omega arith;
-      listed_rows = omega (arith, c.listed_pairs-rows.ensures.rows, rows_where_few (is_listed_pair c.zero.result xs c.zero-2.result ys) (length xs), count, c.rows.ensures);
-      listed_runs = omega (arith, c.listed_pairs-rows.ensures.runs, rows_where_few (begins_pair c.zero.result xs c.zero-2.result ys) (length xs), count, c.rows.ensures);
+      listed_rows = omega (
+        arith,
+        c.listed_pairs-rows.ensures.rows,
+        rows_where_few
+            (is_listed_pair c.zero.result xs c.zero-2.result ys) (length xs),
+        count,
+        c.rows.ensures,
+      );
+      listed_runs = omega (
+        arith,
+        c.listed_pairs-rows.ensures.runs,
+        rows_where_few
+            (begins_pair c.zero.result xs c.zero-2.result ys) (length xs),
+        count,
+        c.rows.ensures,
+      );
     }

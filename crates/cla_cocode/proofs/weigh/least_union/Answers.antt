@@ -11,7 +11,8 @@ returns-clause-small c =
     let a = c.args.a.now in
     let b = c.args.b.now in
     let small = least-small a b c.codes.ensures.are c.codes-2.ensures.are c.requires.pair in
-    let width : c.width.result + c.width-2.result ≡ a.width + b.width = omega (arith, c.width.ensures, c.width-2.ensures) in
+    let width : c.width.result + c.width-2.result ≡ a.width + b.width =
+    omega (arith, c.width.ensures, c.width-2.ensures) in
     let rows : max c.args.first.listed_rows c.args.second.listed_rows ≡ (least_of a b).listed_rows =
     ap (λ (f : Figures). max f.listed_rows c.args.second.listed_rows) c.requires.first
     ∙ ap (λ (f : Figures). max (figures_of a).listed_rows f.listed_rows) c.requires.second in

@@ -7,11 +7,27 @@ use Rattle.cla_cocode.proofs.weigh.listed_pairs.Goals as goal
 
 pub overflow_add-rows : goal.overflow_add-rows
 overflow_add-rows c =
-    omega (arith, c.loop-i.invariant.rows, rows_where_few (is_listed_pair c.args.first c.args.a.now c.args.second c.args.b.now) c.loop-i.i, c.loop-i-test.true, c.requires.few, c.listed_row-rows.ensures.small)
+    let listed = is_listed_pair c.args.first c.args.a.now c.args.second c.args.b.now in
+    omega (
+      arith,
+      c.loop-i.invariant.rows,
+      rows_where_few listed c.loop-i.i,
+      c.loop-i-test.true,
+      c.requires.few,
+      c.listed_row-rows.ensures.small,
+    )
 
 pub overflow_add-runs : goal.overflow_add-runs
 overflow_add-runs c =
-    omega (arith, c.loop-i.invariant.runs, rows_where_few (begins_pair c.args.first c.args.a.now c.args.second c.args.b.now) c.loop-i.i, c.loop-i-test.true, c.requires.few, c.listed_run-runs.ensures.small)
+    let begins = begins_pair c.args.first c.args.a.now c.args.second c.args.b.now in
+    omega (
+      arith,
+      c.loop-i.invariant.runs,
+      rows_where_few begins c.loop-i.i,
+      c.loop-i-test.true,
+      c.requires.few,
+      c.listed_run-runs.ensures.small,
+    )
 
 pub loop-i-preserved : goal.loop-i-preserved
 loop-i-preserved c =
