@@ -1,1 +1,4 @@
-mod Packing
+pub mod PartsBy
+pub mod LayoutsBy
+pub mod Rests
+pub mod Packing

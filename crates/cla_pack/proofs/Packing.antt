@@ -1,23 +1,22 @@
--- The table of a cut has the layout of its matrix by the rule, which is the only one.
+-- The table of a cut has the layout of its matrix by the rule.
 use Rattle.std.proofs.Common.{◌≡◌, ℕ, ℤ, List, length, map, Option, Result, Ok, Err, sym, ap, subst, ◌∙◌, IfOk, [], Some, None, ◌≤◌}
 use Rattle.std.proofs.lemmas.List.{length-map}
 use Rattle.std.specs.Prelude.{OnOk}
 use Rattle.std.proofs.lemmas.Simd.{map-map}
-use Rattle.cla_spec.specs.Matrix.{Matrix, IsShaped}
+use Rattle.cla_spec.specs.Matrix.{Matrix, IsShaped, IsWellMade}
 use Rattle.cla_layout.specs.declared.kind.Kind.{Kind}
 use Rattle.cla_layout.specs.Canonical.{IsCanonical}
 use Rattle.cla_layout.specs.Layouts.{LayoutPart, Layout, StandsFor}
-use Rattle.cla_layout.proofs.Matrices.{one_matrix}
+use Rattle.cla_layout.proofs.Matrices.{one_matrix, well_made}
 use Rattle.cla_grouping.specs.Grouping.{CutOf, GroupOf, grouping_of}
 use Rattle.cla_coded.specs.Parts.{part_of}
 use Rattle.cla_coded.specs.Tables.{TableOf, layout_of}
 use Rattle.cla_io.specs.declared.stop.OutFault.{OutFault}
 use Rattle.cla_packed.specs.Layouts.{encoded, first_bad_field}
 use Rattle.cla_packed_laws.proofs.Encoded.{no_bad_field}
-use Rattle.cla_io.specs.Sinks.{Grows}
-use Rattle.cla_packed_laws.proofs.Fixed.{layout_fixed}
-use Rattle.cla_pack_writer.specs.Writing.{PutsBytes}
-use Rattle.cla_pack.specs.Packing.{kinds_by_rule, IsLayoutByRule}
+use Rattle.cla_io.specs.Sinks.{Grows, PutsAll}
+use Rattle.cla_pack.specs.Packing.{kinds_by_rule, packed_file_of, IsLayoutByRule}
+use Rattle.cla_pack.proofs.LayoutsBy.{by_rule_is_one}
 
 -- what follows where a call answers Ok
 pub on_ok : {T E : Type 0} (P Q : T → Type 0) (result : Result T E) → ((x : T) → P x → Q x) → IfOk result P
@@ -50,32 +49,25 @@ module _ {G : Type 0} (codes : G → List ℕ) (dictionary : G → List (List �
       record {
         canonical = subst (IsCanonical bits layout) by_rule canonical;
         matrix = sym (one_matrix bits layout m canonical.whole (shaped_as value m cells same shape) stands);
-        columns = map-map (λ (part : LayoutPart). part.columns) (part_of codes dictionary) t.parts
+        has_columns = map-map (λ (part : LayoutPart). part.columns) (part_of codes dictionary) t.parts
             ∙ columns ∙ ap (λ (c : CutOf). map (λ (g : GroupOf). g.columns) c.groups) rule;
       }
   built_by_rule bits value m cells cut (Err e) same shape rule stands columns kinds_are canonical = tt
 
--- there is one layout by the rule
-one_layout : (bits : ℕ) (m : Matrix) (a b : Layout) → IsLayoutByRule bits m a → IsLayoutByRule bits m b → a ≡ b
-one_layout bits m a b x y =
-    layout_fixed bits a b (kinds_by_rule m) x.canonical y.canonical (x.matrix ∙ sym y.matrix)
-    (x.columns ∙ sym y.columns)
-
--- so what is put of one is put of each
-pub puts_each : {U : Type 0} (bits : ℕ) (m : Matrix) (layout by_rule : Layout) (kinds : List Kind)
-    (old new : Option (List ℕ))
-    (result : Result U OutFault) → IsLayoutByRule bits m layout → IsLayoutByRule bits m by_rule
-    → kinds ≡ kinds_by_rule m
-    → PutsBytes (encoded 8 layout kinds) old new result → PutsBytes (encoded 8 by_rule (kinds_by_rule m)) old new result
-puts_each {U} bits m layout by_rule kinds old new result is also kinds_are puts =
-    subst (λ (l : Layout). PutsBytes {U = U} (encoded 8 l (kinds_by_rule m)) old new result)
-    (one_layout bits m layout by_rule is also)
-    (subst (λ (ks : List Kind). PutsBytes {U = U} (encoded 8 layout ks) old new result) kinds_are puts)
+-- what is put of a layout by the rule is the packed file of its matrix
+pub puts_file : {U : Type 0} (bits : ℕ) (m : Matrix) (layout : Layout) (kinds : List Kind) (old new : Option (List ℕ))
+    (result : Result U OutFault) → IsLayoutByRule bits m layout → kinds ≡ kinds_by_rule m
+    → PutsAll (encoded 8 layout kinds) old new result → PutsAll (packed_file_of m) old new result
+puts_file {U} bits m layout kinds old new result is kinds_are puts =
+    let well : IsWellMade bits m = subst (IsWellMade bits) is.matrix (well_made bits layout is.canonical.whole) in
+    subst (λ (l : Layout). PutsAll {U = U} (encoded 8 l (kinds_by_rule m)) old new result)
+    (by_rule_is_one bits m layout well is)
+    (subst (λ (ks : List Kind). PutsAll {U = U} (encoded 8 layout ks) old new result) kinds_are puts)
 
 -- what an empty sink has then is read back
 pub read_back : {U : Type 0} (bits : ℕ) (layout : Layout) (kinds : List Kind) (old new : Option (List ℕ))
     (result : Result U OutFault)
-    → IsCanonical bits layout kinds → PutsBytes (encoded 8 layout kinds) old new result
+    → IsCanonical bits layout kinds → PutsAll (encoded 8 layout kinds) old new result
     → (limit : ℕ) (file : List ℕ) → bits ≡ 47 → old ≡ Some [] → new ≡ Some file → length file ≤ limit
     → OnOk result (first_bad_field 8 47 limit file ≡ None)
 read_back bits layout kinds old new (Ok u) canonical puts limit file narrow empty told small =

@@ -4,11 +4,10 @@ ghost use Rattle.std.specs.Prelude.{◌≡◌, ◌≤◌, ℕ, List, [], length,
 ghost use Rattle.cla_coded.specs.AnyGroups.{any_codes, any_dictionary};
 ghost use Rattle.cla_coded.specs.Forms.{kinds_of};
 ghost use Rattle.cla_coded.specs.Tables.{layout_of};
-ghost use Rattle.cla_layout.specs.Layouts.{Layout};
-ghost use Rattle.cla_packed.specs.Layouts.{encoded, first_bad_field};
+ghost use Rattle.cla_packed.specs.Layouts.{first_bad_field};
 ghost use Rattle.cla_pack_writer.specs.Groups.{HaveTheirRests};
-ghost use Rattle.cla_pack_writer.specs.Writing.{PutsBytes, HasWriteCause};
-ghost use Rattle.cla_pack.specs.Packing.{kinds_by_rule, IsLayoutByRule};
+ghost use Rattle.cla_io.specs.Sinks.{PutsAll, HasWriteCause};
+ghost use Rattle.cla_pack.specs.Packing.{kinds_by_rule, packed_file_of, IsLayoutByRule};
 
 use cla_cocode::{build, layout};
 use cla_coded::Coded;
@@ -26,8 +25,7 @@ pub fn pack_matrix<N: Number, O: Sink>(
     m: &Dense<N>,
     out: &mut O,
 ) -> Result<(), OutFault>
-    ensures puts { (by_rule : Layout) → IsLayoutByRule N.BITS m.now by_rule →
-        PutsBytes (encoded 8 by_rule (kinds_by_rule m.now)) (O.told out.old) (O.told out.new) result }
+    ensures puts { PutsAll (packed_file_of m.now) (O.told out.old) (O.told out.new) result }
     ensures readable { (limit : ℕ) (file : List ℕ) → N.BITS ≡ 47 → O.told out.old ≡ Some [] →
         O.told out.new ≡ Some file → length file ≤ limit → OnOk result (first_bad_field 8 47 limit file ≡ None) }
     ensures later { O.faults out.old ≤ O.faults out.new }

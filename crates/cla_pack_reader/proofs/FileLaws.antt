@@ -11,12 +11,13 @@ use Rattle.cla_packed.specs.declared.fault.PackFault.TheVariants.{Trailing, TooL
 use Rattle.cla_packed.specs.Fields.{Place, Read, Gives, ended, list_at, start_of, whole_at, ◌>>=◌}
 use Rattle.cla_packed.specs.Files.{PackedGroup, PackedLayout, IsFile, file_at, file_bytes, group_at}
 use Rattle.cla_packed_laws.proofs.Files.{fields_form, file_form}
-use Rattle.cla_packed_laws.proofs.Forms.{IsAt}
+use Rattle.cla_packed_laws.proofs.Forms.{IsAt, ended_ok}
 use Rattle.cla_pack_reader.specs.declared.header.Header.{Header}
 use Rattle.cla_pack_reader.specs.Headers.{layout_with, GivesHeader}
 use Rattle.cla_pack_reader.specs.Places.{place_at, place_of, places_of, Took, Refused}
-use Rattle.cla_pack_reader.specs.Reading.{GivesFileWhereTold, IsEncodingWhereTold}
+use Rattle.cla_pack_reader.specs.Reading.{GivesFileWhereTold, IsEncodingWhereTold, HasLengthWhereTold}
 use Rattle.cla_pack_reader.proofs.GroupForms.{zero_fits}
+use Rattle.cla_pack_reader.proofs.LengthLaws.{end_from, file_kept}
 use Rattle.cla_pack_reader.proofs.Loops.{fails_again}
 use Rattle.cla_pack_reader.proofs.Steps.{Follows}
 use Rattle.cla_pack_reader.proofs.ZeroLaws.{none_bytes}
@@ -64,6 +65,12 @@ whole_is : (bits limit : ℕ) (bytes : List ℕ)
     → whole_at (file_at 8 bits) limit bytes ≡ (file_at 8 bits (start_of limit bytes) >>= ended)
 unfolding whole_at
 whole_is bits limit bytes = refl
+
+-- the whole file ends where its end is known to be
+length_told : (t : Progress) (l : Option (List ℕ)) (n : ℕ) → t.at ≡ 0 → (IsSome l → n ≡ end_from (place_at t l))
+    → HasLengthWhereTold (ahead_of t l) n
+length_told t None n start h = tt
+length_told t (Some x) n start h = omega (arith, h refl, start)
 
 -- what holds at the place that the files tell
 at_bytes : {X : Type 0} (view : X → PackedLayout) (bits : ℕ) (t : Progress) (l : Option (List ℕ))
@@ -153,6 +160,17 @@ module _ (bits : ℕ) (t0 t1 : Progress) (s0 s1 : State) (h : Header) (start : t
           let x = at_end p here in
           subst (λ (read : Result PackedLayout PackFault). Gives view result read)
           (sym (ap (λ (r : Read PackedLayout). r >>= ended) x.2)) (end x.0 x.1))
+
+      -- where the end was met, the file has as many bytes as were taken
+      pub file_length : ((q : Place) → places_of t2 s2 true q
+          → ended (layout_from h gs, q) ≡ Ok (layout_from h gs))
+          → HasLengthWhereTold (ahead_of t0 (left s0)) t2.at
+      file_length end = length_told t0 (left s0) t2.at start (λ some.
+          let p = place_of t0 s0 in
+          let x = at_end p (told_of s0.told s0.reading some, refl) in
+          let none = (ended_ok (layout_from h gs, x.0) (layout_from h gs) (end x.0 x.1)).0 in
+          let here : x.0.offset ≡ t2.at = ap (λ (r : Place). r.offset) x.1.1 in
+          omega (arith, none, here, file_kept 8 bits p x.0 (layout_from h gs) x.2))
 
 -- what is told of a whole file are the bytes of its layout
 pub encodes_told : (bits limit : ℕ) (l : PackedLayout) (told : Option (List ℕ))

@@ -16,9 +16,11 @@ pub mod ListedLaws
 pub mod ZeroLaws
 pub mod BodyLaws
 pub mod ColumnLaws
+pub mod BitLaws
 pub mod MarkLaws
 pub mod GroupForms
 pub mod GroupLaws
 pub mod PartLaws
+pub mod LengthLaws
 pub mod FileLaws
 pub mod KeptLaws

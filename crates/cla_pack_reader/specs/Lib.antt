@@ -9,6 +9,7 @@ pub mod Headers
 pub mod Seen
 pub mod Tuples
 pub mod Bodies
+pub mod Bits
 pub mod Marks
 pub mod Taken
 pub mod Kept

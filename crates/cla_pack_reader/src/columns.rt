@@ -9,6 +9,7 @@ ghost use Rattle.cla_packed.specs.Files.{fits_width, fits_column};
 ghost use Rattle.cla_pack_reader.specs.Places.{places_of, HasReadCause, Reads};
 ghost use Rattle.cla_pack_reader.specs.Marks.{AreMarks, IsLeast, IsNext};
 
+use crate::bits::Marks;
 use crate::fields::{field, number};
 use cla_io::{Files, Input};
 use cla_packed::{FieldName, PackFault};
@@ -56,7 +57,7 @@ pub(crate) fn width_of<F: Files>(
 
 // Whether a column may stand behind `started` others of its group, of which the last is below `next`. The
 // columns in groups before have marks, and `next` is the least without one where the group has none yet.
-fn fits_column(marks: &[bool], started: bool, next: u32, column: u64) -> bool
+fn fits_column(marks: &Marks, started: bool, next: u32, column: u64) -> bool
     requires { length marks.now < 2 ^ 32 }
     ensures below { result ≡ true → column < length marks.now }
     ensures exact { (taken so_far : List ℕ) → AreMarks (length marks.now) taken marks.now
@@ -66,7 +67,7 @@ fn fits_column(marks: &[bool], started: bool, next: u32, column: u64) -> bool
     if column >= marks.len() as u64 {
         return false;
     }
-    if marks[column as usize] {
+    if marks.has(column as u32) {
         return false;
     }
     if started {
@@ -79,7 +80,7 @@ fn fits_column(marks: &[bool], started: bool, next: u32, column: u64) -> bool
 fn column_of<F: Files>(
     input: &mut Input<'_, F>,
     group: u32,
-    marks: &[bool],
+    marks: &Marks,
     started: bool,
     next: u32,
 ) -> Result<u32, PackFault>
@@ -117,7 +118,7 @@ pub(crate) fn columns_of<F: Files>(
     alloc: Global,
     input: &mut Input<'_, F>,
     group: u32,
-    marks: &[bool],
+    marks: &Marks,
     least: u32,
     width: u32,
 ) -> Result<Vec<u32>, PackFault>

@@ -1,6 +1,7 @@
 //! The reader of packed files, in one pass over an input.
 #![tactic(auto)]
 
+mod bits;
 mod coded;
 mod codes;
 mod columns;

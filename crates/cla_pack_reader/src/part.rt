@@ -33,7 +33,7 @@ pub(crate) fn read_part<N: Number, F: Files>(
     requires a_row { 1 ≤ header.rows }
     requires few_rows { header.rows < 2 ^ 31 }
     requires few_cells { header.rows * header.cols ≤ 2 ^ 26 }
-    requires places { length taken.now.marks.items ≡ header.cols }
+    requires places { length taken.now.marks ≡ header.cols }
     requires room { taken.now.count + left < header.cols }
     ensures same_reference { input.new.files.ghost_name ≡ input.old.files.ghost_name }
     ensures frame { ReadsOn (F.state input.old.files.now) (F.state input.new.files.now) }

@@ -14,7 +14,7 @@ ghost use Rattle.cla_packed.specs.Files.{PackedLayout};
 ghost use Rattle.cla_packed.specs.Layouts.{encoded};
 ghost use Rattle.cla_pack_reader.specs.Kept.{HaveTheirForms, layout_kept};
 ghost use Rattle.cla_pack_reader.specs.Places.{places_of, HasReadCause};
-ghost use Rattle.cla_pack_reader.specs.Reading.{GivesFileWhereTold, IsEncodingWhereTold};
+ghost use Rattle.cla_pack_reader.specs.Reading.{GivesFileWhereTold, IsEncodingWhereTold, HasLengthWhereTold};
 
 use crate::header::read_header;
 use crate::parts::read_parts;
@@ -59,7 +59,7 @@ fn read_end<F: Files>(input: &mut Input<'_, F>) -> Result<(), PackFault>
 /// reading rose, and `Memory` at any field. `Ok` says that the file was read to its end.
 ///
 /// It takes memory by what was read, and besides four bytes for each row of a group whose rows are listed
-/// and one for each column.
+/// and a bit for each column.
 pub fn read_packed<N: Number, F: Files>(
     alloc: Global,
     input: &mut Input<'_, F>,
@@ -76,6 +76,8 @@ pub fn read_packed<N: Number, F: Files>(
         IsCanonical N.BITS layout (kinds_of packed.table)) }
     ensures count { IfOk result (λ packed. let layout = layout_of any_codes any_dictionary packed.table in
         packed.bytes ≡ length (encoded 8 layout (kinds_of packed.table))) }
+    ensures whole { let bytes = ahead_of input.old.taken (left (F.state input.old.files.now)) in
+        IfOk result (λ packed. HasLengthWhereTold bytes packed.bytes) }
     ensures in_limit { IfOk result (λ packed. packed.bytes ≤ input.old.taken.limit) }
     ensures exact { let bytes = ahead_of input.old.taken (left (F.state input.old.files.now)) in
         GivesFileWhereTold (λ packed. layout_kept packed.table) N.BITS input.old.taken.limit bytes result }

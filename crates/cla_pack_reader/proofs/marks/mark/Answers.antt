@@ -1,4 +1,4 @@
-use Rattle.std.proofs.Common.{◌≡◌, ℕ, suc, ◌+◌, ◌<◌, ◌++◌, ◌∷◌, List, [], length, take, set, true, slice_index_or, sym, ap, subst, ◌∙◌, append_assoc, arith}
+use Rattle.std.proofs.Common.{◌≡◌, ℕ, suc, ◌+◌, ◌<◌, ◌++◌, ◌∷◌, Bool, List, [], length, take, set, true, slice_index_or, sym, ap, subst, ◌∙◌, append_assoc, arith}
 use Rattle.std.proofs.Math.Seq.{take-suc}
 use Rattle.std.proofs.lemmas.List.{take_all, length-set}
 use Rattle.cla_pack_reader.specs.Marks.{AreMarks}
@@ -17,14 +17,16 @@ loop-column-preserved c =
     let next : i + 1 ≡ suc i = omega arith in
     let one : take (i + 1) columns ≡ take i columns ++ k ∷ [] =
     ap (λ (n : ℕ). take n columns) next ∙ take-suc columns i 0 lt in
+    let put : c.put.new.self ≡ set marks k true = c.put.ensures in
     record {
-      size = length-set marks k true ∙ size;
+      size = ap (λ (l : List Bool). length l) put ∙ length-set marks k true ∙ size;
       marks = λ taken are.
           let more : (taken ++ take i columns) ++ k ∷ [] ≡ taken ++ take (i + 1) columns =
           append_assoc taken (take i columns) (k ∷ []) ∙ ap (λ (l : List ℕ). taken ++ l) (sym one) in
-          subst (λ (l : List ℕ). AreMarks cols l (set marks k true)) more
+          subst (λ (l : List Bool). AreMarks cols (taken ++ take (i + 1) columns) l) (sym put)
+          (subst (λ (l : List ℕ). AreMarks cols l (set marks k true)) more
           (mark_more cols (taken ++ take i columns) marks k size (c.requires i lt)
-          (c.loop-column.invariant.marks taken are));
+          (c.loop-column.invariant.marks taken are)));
     }
 
 pub returns-clause-marks : goal.returns-clause-marks

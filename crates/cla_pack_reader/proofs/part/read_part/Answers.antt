@@ -1,4 +1,4 @@
-use Rattle.std.proofs.Common.{◌≡◌, ℕ, ◌≤◌, List, [], Bool, length, sym, ap, subst, ◌∙◌, arith}
+use Rattle.std.proofs.Common.{◌≡◌, ℕ, ◌≤◌, [], length, sym, subst, arith}
 use Rattle.std.proofs.Math.Nat.{mul-le-mul_left}
 use Rattle.cla_layout.specs.declared.kind.Kind.{Kind}
 use Rattle.cla_coded.specs.AnyGroups.{any_codes, any_dictionary, any_form}
@@ -45,12 +45,9 @@ returns-in-Err-columns_of-clause-exact g c before is taken =
     let t2 = c.width_of.new.input.taken in
     let s2 = g.F.Files.state c.width_of.new.input.files.now in
     let cs = columns_of before in
-    let value = c.deref.ensures.value in
-    let size : length c.deref.result.now ≡ c.args.header.cols = ap (λ (l : List Bool). length l) value
-    ∙ c.requires.places in
-    let are : AreMarks (length c.deref.result.now) cs c.deref.result.now =
-    subst (λ (n : ℕ). AreMarks n cs c.deref.result.now) (sym size)
-    (subst (λ (l : List Bool). AreMarks c.args.header.cols cs l) (sym value) taken.marks) in
+    let marks = c.args.taken.now.marks in
+    let size : length marks ≡ c.args.header.cols = c.requires.places in
+    let are : AreMarks (length marks) cs marks = subst (λ (n : ℕ). AreMarks n cs marks) (sym size) taken.marks in
     let bad = subst (λ (n : ℕ). Refused (places_of t2 s2)
     (list_at (λ left so_far. field_at 4 (fits_column n cs so_far) c.args.group Column) c.in-Ok-width_of.width [])
     c.in-Err-columns_of.fault) size (c.in-Err-columns_of.ensures.exact cs are taken.least) in
@@ -72,12 +69,9 @@ returns-in-Err-read_group-clause-exact g c before is taken =
     let s3 = g.F.Files.state c.columns_of.new.input.files.now in
     let cs = columns_of before in
     let columns = c.in-Ok-columns_of.columns.items in
-    let value = c.deref.ensures.value in
-    let size : length c.deref.result.now ≡ c.args.header.cols = ap (λ (l : List Bool). length l) value
-    ∙ c.requires.places in
-    let are : AreMarks (length c.deref.result.now) cs c.deref.result.now =
-    subst (λ (n : ℕ). AreMarks n cs c.deref.result.now) (sym size)
-    (subst (λ (l : List Bool). AreMarks c.args.header.cols cs l) (sym value) taken.marks) in
+    let marks = c.args.taken.now.marks in
+    let size : length marks ≡ c.args.header.cols = c.requires.places in
+    let are : AreMarks (length marks) cs marks = subst (λ (n : ℕ). AreMarks n cs marks) (sym size) taken.marks in
     let took = subst (λ (n : ℕ). Took (places_of t2 s2) (places_of t3 s3)
     (list_at (λ left so_far. field_at 4 (fits_column n cs so_far) c.args.group Column) c.in-Ok-width_of.width [])
     columns) size (c.in-Ok-columns_of.ensures.exact cs are taken.least) in
@@ -108,12 +102,9 @@ returns-in-Ok-read_group-clause-exact g c before is taken =
     let cs = columns_of before in
     let columns = c.in-Ok-columns_of.columns.items in
     let group = c.in-Ok-read_group.group in
-    let value = c.deref.ensures.value in
-    let size : length c.deref.result.now ≡ c.args.header.cols = ap (λ (l : List Bool). length l) value
-    ∙ c.requires.places in
-    let are : AreMarks (length c.deref.result.now) cs c.deref.result.now =
-    subst (λ (n : ℕ). AreMarks n cs c.deref.result.now) (sym size)
-    (subst (λ (l : List Bool). AreMarks c.args.header.cols cs l) (sym value) taken.marks) in
+    let marks = c.args.taken.now.marks in
+    let size : length marks ≡ c.args.header.cols = c.requires.places in
+    let are : AreMarks (length marks) cs marks = subst (λ (n : ℕ). AreMarks n cs marks) (sym size) taken.marks in
     let took = subst (λ (n : ℕ). Took (places_of t2 s2) (places_of t3 s3)
     (list_at (λ left so_far. field_at 4 (fits_column n cs so_far) c.args.group Column) c.in-Ok-width_of.width [])
     columns) size (c.in-Ok-columns_of.ensures.exact cs are taken.least) in

@@ -106,7 +106,7 @@ loop-g-preserved g c =
 
 pub add-requires-clause-below : goal.add-requires-clause-below
 add-requires-clause-below g c =
-    subst (λ (l : List ℕ). (k : ℕ) → k < length l → code_of l k < length c.loop-g.taken.marks.items)
+    subst (λ (l : List ℕ). (k : ℕ) → k < length l → code_of l k < length c.loop-g.taken.marks)
     (sym c.deref.ensures.value) (subst (λ (n : ℕ). (k : ℕ) → k < length c.in-Ok-read_part.part.columns.items
     → code_of c.in-Ok-read_part.part.columns.items k < n) (sym c.loop-g.invariant.taken.places)
     c.in-Ok-read_part.ensures.below)

@@ -4,7 +4,7 @@ use Rattle.cla_io.specs.State.{left}
 use Rattle.cla_packed.specs.Files.{PackedLayout}
 use Rattle.cla_pack_reader.specs.Kept.{group_kept}
 use Rattle.cla_pack_reader.specs.Reading.{IsEncodingWhereTold}
-use Rattle.cla_pack_reader.proofs.FileLaws.{no_header, no_groups_read, layout_from, file_good, file_gives, encodes_told}
+use Rattle.cla_pack_reader.proofs.FileLaws.{no_header, no_groups_read, layout_from, file_good, file_gives, file_length, encodes_told}
 use Rattle.cla_pack_reader.proofs.KeptLaws.{table_canonical, table_encoded, table_length}
 use Rattle.cla_pack_reader.proofs.Steps.{follows}
 use Rattle.cla_pack_reader.proofs.reader.read_packed.Goals as goal
@@ -160,3 +160,20 @@ returns-in-Ok-read_end-clause-encodes g c =
     c.in-Ok-read_parts.ensures.exact h (λ (x : PackedLayout). x) (Ok layout) (c.in-Ok-read_end.ensures.exact layout) in
     rw c.new.ensures (subst (λ (l : List ℕ). IsEncodingWhereTold bytes l)
     (sym (table_encoded header.rows header.cols parts)) (encodes_told bits t0.limit layout bytes told))
+
+pub returns-in-Ok-read_end-clause-whole : goal.returns-in-Ok-read_end-clause-whole
+returns-in-Ok-read_end-clause-whole g c =
+    let t0 = c.args.input.now.taken in
+    let s0 = g.F.Files.state c.args.input.now.files.now in
+    let t1 = c.read_header.new.input.taken in
+    let s1 = g.F.Files.state c.read_header.new.input.files.now in
+    let t2 = c.read_parts.new.input.taken in
+    let s2 = g.F.Files.state c.read_parts.new.input.files.now in
+    let bits = g.N.Number.BITS in
+    let f = follows t0 t1 s0 s1 c.in-Ok.ensures.frame.told in
+    let h = follows t1 t2 s1 s2 c.in-Ok-read_parts.ensures.frame.told in
+    let gs = map group_kept c.in-Ok-read_parts.parts.items in
+    let exact = c.in-Ok.ensures.exact bits in
+    let layout = layout_from c.in-Ok.header gs in
+    rw c.at-bytes.ensures (file_length bits t0 t1 s0 s1 c.in-Ok.header c.requires.nothing_taken exact f t2 s2 gs
+    c.in-Ok-read_parts.ensures.exact h (c.in-Ok-read_end.ensures.exact layout))

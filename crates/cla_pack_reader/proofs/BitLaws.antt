@@ -1,0 +1,65 @@
+-- Marks as bits of words.
+use Rattle.std.proofs.Common.{◌≡◌, ℕ, ◌*◌, ◌/◌, ◌%◌, ◌<◌, ◌≤◌, Bool, true, false, ◌==◌, List, length, set, get_or, replicate, sym, ap, ◌∙◌, arith, inl, inr}
+use Rattle.std.specs.Int.{bit_at}
+use Rattle.std.proofs.lemmas.Bool.{cases_eq}
+use Rattle.std.proofs.lemmas.Grind.{get_or-set_at}
+use Rattle.std.proofs.lemmas.List.{ext_get_or, length-set, length-replicate, get_or-set_other, get_or-replicate}
+use Rattle.std.proofs.lemmas.List.FromFn.{length-map-range_with_len, get_or-map-range_with_len}
+use Rattle.std.proofs.lemmas.Nat.Bits.{bit_at-zero}
+use Rattle.cla_pack_reader.specs.Bits.{mark_in, marks_in}
+
+-- the mark of a word's bit
+abbrev marked : ℕ → ℕ → Bool
+marked word k = bit_at word k == 1
+
+pub marks_count : (words : List ℕ) (n : ℕ) → length (marks_in words n) ≡ n
+marks_count words n = length-map-range_with_len (mark_in words) 0 n
+
+pub mark_at : (words : List ℕ) (n c : ℕ) → c < n → get_or (marks_in words n) c false ≡ mark_in words c
+mark_at words n c lt = get_or-map-range_with_len (mark_in words) 0 n c c false lt (omega arith)
+
+-- words of zeros have no marks
+pub none_marked : (k n : ℕ) → n ≤ 64 * k → marks_in (replicate k 0) n ≡ replicate n false
+none_marked k n room =
+    let count = marks_count (replicate k 0) n in
+    ext_get_or false (marks_in (replicate k 0) n) (replicate n false) (count ∙ sym (length-replicate n false))
+    (λ c lt.
+    let there : c < n = omega (arith, lt, count) in
+    let word : c / 64 < k = omega (arith, there, room) in
+    mark_at (replicate k 0) n c there
+    ∙ ap (λ (w : ℕ). marked w (c % 64)) (get_or-replicate k (c / 64) 0 0 word)
+    ∙ ap (λ (b : ℕ). b == 1) (bit_at-zero (c % 64))
+    ∙ sym (get_or-replicate n c false false there))
+
+-- one bit more is one mark more
+pub one_marked : (words : List ℕ) (n c word : ℕ) → n ≤ 64 * length words → c < n → bit_at word (c % 64) ≡ 1
+    → ((i : ℕ) → (i ≡ c % 64 → ⊥) → bit_at word i ≡ bit_at (get_or words (c / 64) 0) i)
+    → marks_in (set words (c / 64) word) n ≡ set (marks_in words n) c true
+one_marked words n c word room lt is others =
+    let after = set words (c / 64) word in
+    let count = marks_count after n in
+    let place : c / 64 < length words = omega (arith, lt, room) in
+    ext_get_or false (marks_in after n) (set (marks_in words n) c true)
+    (count ∙ sym (length-set (marks_in words n) c true ∙ marks_count words n))
+    (λ i there.
+    let here : i < n = omega (arith, there, count) in
+    mark_at after n i here ∙ elim (cases_eq i c) [
+      | inl same ↦
+          let at : get_or after (i / 64) 0 ≡ word =
+          get_or-set_at words (c / 64) (i / 64) word 0 (ap (λ (j : ℕ). j / 64) same) place in
+          ap (λ (w : ℕ). marked w (i % 64)) at ∙ ap (λ (j : ℕ). marked word (j % 64)) same
+          ∙ ap (λ (b : ℕ). b == 1) is
+          ∙ sym (get_or-set_at (marks_in words n) c i true false same (omega (arith, lt, marks_count words n)))
+      | inr other ↦
+          let kept : get_or (set (marks_in words n) c true) i false ≡ mark_in words i =
+          get_or-set_other (marks_in words n) c i true false other ∙ mark_at words n i here in
+          elim (cases_eq (i / 64) (c / 64)) [
+            | inl near ↦
+                let at : get_or after (i / 64) 0 ≡ word = get_or-set_at words (c / 64) (i / 64) word 0 near place in
+                ap (λ (w : ℕ). marked w (i % 64)) at
+                ∙ ap (λ (b : ℕ). b == 1) (others (i % 64) (λ e. other (omega (arith, near, e))))
+                ∙ ap (λ (j : ℕ). marked (get_or words j 0) (i % 64)) (sym near)
+            | inr far ↦
+                ap (λ (w : ℕ). marked w (i % 64)) (get_or-set_other words (c / 64) (i / 64) word 0 far)
+          ] ∙ sym kept
+    ])
