@@ -1,0 +1,5 @@
+pub mod FormLaws
+pub mod KeptLaws
+pub mod SizeLaws
+pub mod CutLaws
+pub mod StatsLaws

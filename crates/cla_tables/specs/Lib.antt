@@ -1,0 +1,5 @@
+pub mod TableFiles
+pub mod Reading
+pub mod Budget
+pub mod Stats
+pub mod Kept
