@@ -7,6 +7,9 @@ use Rattle.cla_grammar.specs.Tree.{Named, Apply}
 use Rattle.cla_cli.specs.Outcome.{place_at}
 use Rattle.cla_print.specs.Texts.{Scalar, Table, printed}
 use Rattle.cla_market.specs.declared.fault.MtxFault.TheVariants as mtx
+use Rattle.cla_packed.specs.declared.fault.FieldName.TheVariants as field
+use Rattle.cla_packed.specs.declared.fault.PackFault.TheVariants as pack
+use Rattle.cla_tables.specs.declared.fault.FileFault.TheVariants as file
 use Rattle.cla_cli.specs.Texts.{table_line, budget_line}
 use Rattle.cla_cli.specs.Statements.{value_of}
 
@@ -26,9 +29,19 @@ pub transpose_does_not_run : value_of 47 ((codes "X", square) ∷ [])
     (Apply (place_at 2 7) call.Transpose (Named (place_at 2 9) (codes "X"))) ≡ None
 transpose_does_not_run = refl
 
-pub too_long_is : table_line (codes "x.mtx") mtx.TooLong ≡ codes "limit x.mtx: more than 4294967296 bytes\n"
+pub too_long_is : table_line (codes "x.mtx") (file.Mtx mtx.TooLong) ≡ codes "limit x.mtx: more than 4294967296 bytes\n"
 unfolding digits
 too_long_is = refl
+
+pub bad_field_is : table_line (codes "x.mtx") (file.Pack (pack.Field 1 field.Code 43))
+    ≡ codes "bad file x.mtx: group 1 code at 43\n"
+unfolding digits
+bad_field_is = refl
+
+pub trailing_is : table_line (codes "x.mtx") (file.Pack (pack.Trailing 44))
+    ≡ codes "bad file x.mtx: trailing byte at 44\n"
+unfolding digits
+trailing_is = refl
 
 pub over_is : budget_line (codes "x.mtx") 34 33 ≡ codes "budget x.mtx: needs 34, has 33\n"
 unfolding digits

@@ -88,7 +88,7 @@ pub table_comes : (bits budget : ℕ) (told : Told) (all left rest : List (List 
     (done more : List Matrix) (m : Matrix)
     (next : List Matrix → Outcome) → left ≡ file ∷ rest → name ≡ file → more ≡ done ++ m ∷ []
     → ReachesRest bits budget told all left done next →
-    ((after : Matrix → Outcome) → Reaches (with_table bits budget told name after) (after m))
+    ((after : Matrix → Outcome) → Reaches (with_table bits budget told name (λ t. after t.matrix)) (after m))
     → ReachesRest bits budget told all rest more next
 table_comes bits budget told all left rest file name done more m next a b d so_far read =
     rw d (one_read bits budget told all file rest done m next (rw a at so_far) (rw b at read))
@@ -97,11 +97,11 @@ pub table_fails : (bits budget : ℕ) (told : Told) (all left rest : List (List 
     (done : List Matrix)
     (next : List Matrix → Outcome) (e : Unfinished) → left ≡ file ∷ rest → name ≡ file →
     ReachesRest bits budget told all left done next
-    → ((after : Matrix → Outcome) → Lets after (with_table bits budget told name after) (Err e))
+    → ((after : Matrix → Outcome) → Lets after (with_table bits budget told name (λ t. after t.matrix)) (Err e))
     → Lets next (with_tables bits budget told all next) (Err e)
 table_fails bits budget told all left rest file name done next e a b so_far read =
     one_unread next bits budget told all file rest done next e (rw a at so_far)
-    (λ after. subst (λ x. Lets after (with_table bits budget told x after) (Err e)) b (read after))
+    (λ after. subst (λ x. Lets after (with_table bits budget told x (λ t. after t.matrix)) (Err e)) b (read after))
 
 pub table_is_needed : (bits budget : ℕ) (told : Told) (all left rest : List (List ℕ)) (file name : List ℕ)
     (done : List Matrix)

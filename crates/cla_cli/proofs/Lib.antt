@@ -9,6 +9,4 @@ pub mod ScriptLaws
 pub mod EndingLaws
 pub mod InputsLaws
 pub mod StatsLaws
-pub mod BudgetLaws
-pub mod GroupLaws
-pub mod WordLaws
+pub mod FileLaws

@@ -8,10 +8,9 @@ use Rattle.std.proofs.lemmas.Bool.Decides.{nat_tests}
 use Rattle.cla_spec.specs.Files.{Told}
 use Rattle.cla_spec.specs.Matrix.{Matrix}
 use Rattle.cla_io.specs.State.{Reading}
-use Rattle.cla_market.specs.declared.fault.MtxFault.{MtxFault}
-use Rattle.cla_market.specs.Texts.{matrix_in, fault_in, first_bad_line}
+use Rattle.cla_tables.specs.declared.fault.FileFault.{FileFault}
+use Rattle.cla_tables.specs.TableFiles.{TableFile, table_in}
 use Rattle.cla_grammar.specs.Tree.{Statement}
-use Rattle.cla_grouping.specs.Grouping.{grouping_of, packed_size}
 use Rattle.cla_cli.specs.declared.status.Status.{Status}
 use Rattle.cla_cli.specs.declared.unread.Unread.{Unread}
 use Rattle.cla_cli.specs.declared.unread.Unread.TheVariants as unread
@@ -60,6 +59,7 @@ lets_reached next o p (Ok x) on h = reaches_on o p (next x) on h
 lets_reached next o p (Err (unfinished.Refused status line)) on h = (on.status ∙ h.0, on.effects ∙ h.1, on.line ∙ h.2)
 lets_reached next o p (Err (unfinished.Unread line)) on h = (h.0, on.needed h.0 h.1, h.2)
 lets_reached next o p (Err unfinished.OutputUnwritten) on h = absurd h
+lets_reached next o p (Err (unfinished.FileUnwritten line)) on h = absurd h
 lets_reached next o p (Err unfinished.Memory) on h = tt
 
 -- an error lets nothing follow
@@ -69,6 +69,7 @@ pub lets_error : {T U : Type 0} (next : T → Outcome) (then : U → Outcome) (o
 lets_error next then o (unfinished.Refused status line) h = h
 lets_error next then o (unfinished.Unread line) h = h
 lets_error next then o unfinished.OutputUnwritten h = absurd h
+lets_error next then o (unfinished.FileUnwritten line) h = absurd h
 lets_error next then o unfinished.Memory h = tt
 
 -- a check of a script decides as its outcome says
@@ -82,6 +83,7 @@ passes_lets view next checked (Err (unfinished.Refused status line)) h =
     (sym h.1.1, refl, ap Some (sym h.1.2))
 passes_lets view next checked (Err (unfinished.Unread line)) h = absurd h
 passes_lets view next checked (Err unfinished.OutputUnwritten) h = absurd h
+passes_lets view next checked (Err (unfinished.FileUnwritten line)) h = absurd h
 passes_lets view next checked (Err unfinished.Memory) h = tt
 
 -- a script whose text was read
@@ -149,29 +151,27 @@ script_unread next bits budget told name unread.Fault (unfinished.Unread line) h
 script_unread next bits budget told name u r h t = absurd t
 
 -- a table that was read
-table_there : (bits budget : ℕ) (told : Told) (name text : List ℕ) (m : Matrix) (next : Matrix → Outcome)
-    → fin.get told name ≡ Some text → matrix_in bits table_limit text ≡ Ok m
-    → with_table bits budget told name next
-    ≡ needing name (unless_larger name budget (packed_size (grouping_of m)) (next m))
-table_there bits budget told name text m next there found = rw (there, found) refl
+table_there : (bits budget : ℕ) (told : Told) (name bytes : List ℕ) (t : TableFile) (next : TableFile → Outcome)
+    → fin.get told name ≡ Some bytes → table_in bits table_limit bytes ≡ Ok t
+    → with_table bits budget told name next ≡ needing name (unless_larger name budget t.bytes (next t))
+table_there bits budget told name bytes t next there found = rw (there, found) refl
 
-table_read : (bits budget : ℕ) (told : Told) (name : List ℕ) (m : Matrix) (next : Matrix → Outcome)
-    → ReadsTable bits (Some told) name (Ok m)
-    → Reaches (with_table bits budget told name next) (unless_larger name budget (packed_size (grouping_of m)) (next m))
-table_read bits budget told name m next h =
-    rw (table_there bits budget told name h.0 m next h.1 h.2) (needing_reaches name _)
+table_read : (bits budget : ℕ) (told : Told) (name : List ℕ) (t : TableFile) (next : TableFile → Outcome)
+    → ReadsTable bits (Some told) name (Ok t)
+    → Reaches (with_table bits budget told name next) (unless_larger name budget t.bytes (next t))
+table_read bits budget told name t next h =
+    rw (table_there bits budget told name h.0 t next h.1 h.2) (needing_reaches name _)
 
 -- one that is within its budget
 fitting : (name : List ℕ) (budget size : ℕ) (o : Outcome) → size ≤ budget → Reaches (unless_larger name budget size o) o
 fitting name budget size o fits = rw (le-leb size budget fits) (reaches_itself o)
 
-pub matrix_read : (bits budget : ℕ) (told : Told) (name : List ℕ) (m : Matrix) (next : Matrix → Outcome)
-    → ReadsTable bits (Some told) name (Ok m) → Fits {U = Unit {0}} name budget (packed_size (grouping_of m)) (Ok tt)
-    → Reaches (with_table bits budget told name next) (next m)
-matrix_read bits budget told name m next h fits =
-    let size = packed_size (grouping_of m) in
-    reaches_on (with_table bits budget told name next) (unless_larger name budget size (next m)) (next m)
-    (table_read bits budget told name m next h) (fitting name budget size (next m) fits)
+pub table_within : (bits budget : ℕ) (told : Told) (name : List ℕ) (t : TableFile) (next : TableFile → Outcome)
+    → ReadsTable bits (Some told) name (Ok t) → Fits {U = Unit {0}} name budget t.bytes (Ok tt)
+    → Reaches (with_table bits budget told name next) (next t)
+table_within bits budget told name t next h fits =
+    reaches_on (with_table bits budget told name next) (unless_larger name budget t.bytes (next t)) (next t)
+    (table_read bits budget told name t next h) (fitting name budget t.bytes (next t) fits)
 
 -- and one that isn't
 over : (name : List ℕ) (budget size : ℕ) (o : Outcome) → budget < size
@@ -185,34 +185,28 @@ exceeds next name budget size o (unfinished.Refused status line) h =
 exceeds next name budget size o unfinished.Memory h = tt
 exceeds next name budget size o e h = absurd h.1
 
-pub matrix_exceeds : {T : Type 0} (then : T → Outcome) (bits budget : ℕ) (told : Told) (name : List ℕ) (m : Matrix)
-    (next : Matrix → Outcome) (e : Unfinished)
-    → ReadsTable bits (Some told) name (Ok m) → Fits {U = Unit {0}} name budget (packed_size (grouping_of m)) (Err e)
+pub table_exceeds : {T : Type 0} (then : T → Outcome) (bits budget : ℕ) (told : Told) (name : List ℕ) (t : TableFile)
+    (next : TableFile → Outcome) (e : Unfinished)
+    → ReadsTable bits (Some told) name (Ok t) → Fits {U = Unit {0}} name budget t.bytes (Err e)
     → Lets then (with_table bits budget told name next) (Err e)
-matrix_exceeds then bits budget told name m next e h fits =
-    let size = packed_size (grouping_of m) in
-    lets_reached then (with_table bits budget told name next) (unless_larger name budget size (next m)) (Err e)
-    (table_read bits budget told name m next h) (exceeds then name budget size (next m) e fits)
+table_exceeds then bits budget told name t next e h fits =
+    lets_reached then (with_table bits budget told name next) (unless_larger name budget t.bytes (next t)) (Err e)
+    (table_read bits budget told name t next h) (exceeds then name budget t.bytes (next t) e fits)
 
 -- a table that isn't there, or isn't of the form
-table_missing : (bits budget : ℕ) (told : Told) (name : List ℕ) (next : Matrix → Outcome) → fin.get told name ≡ None
+table_missing : (bits budget : ℕ) (told : Told) (name : List ℕ) (next : TableFile → Outcome) → fin.get told name ≡ None
     → with_table bits budget told name next ≡ record (refused (missing_refusal name)) { needed = name ∷ [] }
 table_missing bits budget told name next none = rw none refl
 
-the_fault : (r : Result Matrix MtxFault) (fault : MtxFault) → fault_in r ≡ Some fault → r ≡ Err fault
-the_fault (Ok m) fault is = (absurd (cc))
-the_fault (Err e) fault is = (cc)
-
-table_of_no_form : (bits budget : ℕ) (told : Told) (name text : List ℕ) (fault : MtxFault) (next : Matrix → Outcome)
-    → fin.get told name ≡ Some text → first_bad_line bits table_limit text ≡ Some fault
+table_of_no_form : (bits budget : ℕ) (told : Told) (name bytes : List ℕ) (fault : FileFault)
+    (next : TableFile → Outcome)
+    → fin.get told name ≡ Some bytes → table_in bits table_limit bytes ≡ Err fault
     → with_table bits budget told name next ≡ record (refused (table_refusal name fault)) { needed = name ∷ [] }
-table_of_no_form bits budget told name text fault next there bad =
-    rw (there, the_fault (matrix_in bits table_limit text) fault bad) refl
+table_of_no_form bits budget told name bytes fault next there bad = rw (there, bad) refl
 
 -- why a table isn't read, as it is told
-pub table_unread : {T : Type 0} (then : T → Outcome) (bits budget : ℕ) (told : Told) (name : List ℕ) (next : Matrix →
-    Outcome)
-    (u : Unread MtxFault) (r : Unfinished) → ReadsTable bits (Some told) name (Err u) →
+pub table_unread : {T : Type 0} (then : T → Outcome) (bits budget : ℕ) (told : Told) (name : List ℕ)
+    (next : TableFile → Outcome) (u : Unread FileFault) (r : Unfinished) → ReadsTable bits (Some told) name (Err u) →
     TellsUnread (table_refusal name) name u r
     → Lets then (with_table bits budget told name next) (Err r)
 table_unread then bits budget told name next u unfinished.Memory h t = tt
@@ -237,7 +231,8 @@ pub script_needed : (bits budget : ℕ) (told : Told) (name : List ℕ) (reading
 script_needed bits budget told name reading h = needed_in (script_outcome bits budget told name).needed name reading
     (0, omega arith, refl) h
 
-pub table_needed : (bits budget : ℕ) (told : Told) (name : List ℕ) (next : Matrix → Outcome) (reading : Option Reading)
+pub table_needed : (bits budget : ℕ) (told : Told) (name : List ℕ) (next : TableFile → Outcome)
+    (reading : Option Reading)
     → ReadsNoOther name reading → IsNeeded (with_table bits budget told name next).needed reading
 table_needed bits budget told name next reading h =
     needed_in (with_table bits budget told name next).needed name reading (0, omega arith, refl) h
@@ -266,7 +261,7 @@ none_read bits budget told all next = (next, (λ ms. refl), reaches_itself _)
 pub one_read : (bits budget : ℕ) (told : Told) (all : List (List ℕ)) (name : List ℕ) (rest : List (List ℕ))
     (done : List Matrix) (m : Matrix)
     (next : List Matrix → Outcome) → ReachesRest bits budget told all (name ∷ rest) done next
-    → ((after : Matrix → Outcome) → Reaches (with_table bits budget told name after) (after m))
+    → ((after : Matrix → Outcome) → Reaches (with_table bits budget told name (λ t. after t.matrix)) (after m))
     → ReachesRest bits budget told all rest (done ++ m ∷ []) next
 one_read bits budget told all name rest done m next so_far read = (
   λ ms. so_far.0 (m ∷ ms),
@@ -284,13 +279,13 @@ pub one_unread : {U : Type 0} (then : U → Outcome) (bits budget : ℕ) (told :
     (rest : List (List ℕ))
     (done : List Matrix) (next : List Matrix → Outcome) (e : Unfinished) →
     ReachesRest bits budget told all (name ∷ rest) done next
-    → ((after : Matrix → Outcome) → Lets after (with_table bits budget told name after) (Err e))
+    → ((after : Matrix → Outcome) → Lets after (with_table bits budget told name (λ t. after t.matrix)) (Err e))
     → Lets then (with_tables bits budget told all next) (Err e)
 one_unread then bits budget told all name rest done next e so_far read =
     let after : Matrix → Outcome = λ x. with_tables bits budget told rest (λ ms. so_far.0 (x ∷ ms)) in
     lets_error after then (with_tables bits budget told all next) e
-    (lets_reached after (with_tables bits budget told all next) (with_table bits budget told name after) (Err e)
-    so_far.2 (read after))
+    (lets_reached after (with_tables bits budget told all next)
+    (with_table bits budget told name (λ t. after t.matrix)) (Err e) so_far.2 (read after))
 
 pub one_needed : (bits budget : ℕ) (told : Told) (all : List (List ℕ)) (name : List ℕ) (rest : List (List ℕ))
     (done : List Matrix)

@@ -1,13 +1,14 @@
 pub mod Codes
-pub mod Words
 pub mod Limits
 pub mod Texts
 pub mod Statements
 pub mod Tables
 pub mod Evaluate
 pub mod Stats
+pub mod Forms
 pub mod Outcome
 pub mod Needed
 pub mod Run
 pub mod Runs
 pub mod Parts
+pub mod Writing

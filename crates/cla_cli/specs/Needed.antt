@@ -4,11 +4,13 @@ use Rattle.std.specs.FinMap as fin
 use Rattle.std.specs.declared.vec.Vec.{Vec}
 use Rattle.std.specs.declared.alloc.Global.{Global}
 use Rattle.cla_spec.specs.Files.{Told}
-use Rattle.cla_spec.specs.Matrix.{Matrix}
 use Rattle.cla_io.specs.State.{State, Reading}
 use Rattle.cla_io.specs.Counts.{Rose}
-use Rattle.cla_market.specs.declared.fault.MtxFault.{MtxFault}
-use Rattle.cla_market.specs.Texts.{Spells, first_bad_line}
+use Rattle.cla_market.specs.declared.fault.MtxFault.TheVariants as mtx
+use Rattle.cla_packed.specs.declared.fault.PackFault.TheVariants as pack
+use Rattle.cla_tables.specs.declared.fault.FileFault.{FileFault}
+use Rattle.cla_tables.specs.declared.fault.FileFault.TheVariants as file
+use Rattle.cla_tables.specs.TableFiles.{TableFile, table_in}
 use Rattle.cla_cli.specs.declared.unread.Unread.{Unread}
 use Rattle.cla_cli.specs.declared.unread.Unread.TheVariants.{Missing, Fault, Memory, Refused}
 use Rattle.cla_cli.specs.declared.unread.TooLong.{TooLong}
@@ -62,11 +64,19 @@ abbrev pub ReadsText : Option Told → List ℕ → Result (Vec ℕ Global) (Unr
 ReadsText told name result = ReadsWhereTold IsText IsTooLong told name result
 
 -- a table
-abbrev pub IsTable : ℕ → List ℕ → Matrix → Type 0
-IsTable bits text m = Spells bits table_limit text m
+abbrev pub IsTable : ℕ → List ℕ → TableFile → Type 0
+IsTable bits bytes t = table_in bits table_limit bytes ≡ Ok t
 
-abbrev pub IsNoTable : ℕ → List ℕ → MtxFault → Type 0
-IsNoTable bits text fault = first_bad_line bits table_limit text ≡ Some fault
+abbrev pub IsNoTable : ℕ → List ℕ → FileFault → Type 0
+IsNoTable bits bytes fault = table_in bits table_limit bytes ≡ Err fault
 
-abbrev pub ReadsTable : ℕ → Option Told → List ℕ → Result Matrix (Unread MtxFault) → Type 0
+-- why a file that is there isn't read as a table: a fault of its bytes, or one that was met while it was read
+abbrev pub unread_by : FileFault → Unread FileFault
+unread_by (file.Mtx mtx.Read) = Fault
+unread_by (file.Mtx mtx.Memory) = Memory
+unread_by (file.Pack pack.Read) = Fault
+unread_by (file.Pack pack.Memory) = Memory
+unread_by fault = Refused fault
+
+abbrev pub ReadsTable : ℕ → Option Told → List ℕ → Result TableFile (Unread FileFault) → Type 0
 ReadsTable bits told name result = ReadsWhereTold (IsTable bits) (IsNoTable bits) told name result

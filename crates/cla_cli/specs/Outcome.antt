@@ -7,16 +7,17 @@ use Rattle.cla_spec.specs.Effects.{Effect}
 use Rattle.cla_spec.specs.Matrix.{Matrix}
 use Rattle.cla_num.specs.Counts.{Counts, zero_counts}
 use Rattle.cla_num.specs.declared.fault.OpFault.{OpFault}
-use Rattle.cla_market.specs.declared.fault.MtxFault.{MtxFault}
 use Rattle.cla_market.specs.declared.fault.MtxFault.TheVariants as mtx
-use Rattle.cla_market.specs.Texts.{matrix_in}
+use Rattle.cla_packed.specs.declared.fault.PackFault.TheVariants as pack
+use Rattle.cla_tables.specs.declared.fault.FileFault.{FileFault}
+use Rattle.cla_tables.specs.declared.fault.FileFault.TheVariants as file
+use Rattle.cla_tables.specs.TableFiles.{TableFile, table_in}
 use Rattle.cla_grammar.specs.declared.place.Place.{Place}
 use Rattle.cla_grammar.specs.declared.words.ScriptKind.TheVariants.{Clash}
 use Rattle.cla_grammar.specs.Faults as grammar
 use Rattle.cla_grammar.specs.Tree.{Statement}
 use Rattle.cla_tokens.specs.Scripts.{script_in}
 use Rattle.cla_script.specs.Clashes.{first_clash}
-use Rattle.cla_grouping.specs.Grouping.{grouping_of, packed_size}
 use Rattle.cla_check.specs.Scripts.{first_shape_fault}
 use Rattle.cla_check.specs.declared.shape.Shape.{Shape}
 use Rattle.cla_check.specs.declared.fault.Fault as shapes
@@ -24,12 +25,14 @@ use Rattle.cla_cli.specs.declared.status.Status.{Status}
 use Rattle.cla_cli.specs.declared.status.Status.TheVariants.{Done, Usage, Missing, BadScript, BadFile, Limit, Operator, OverBudget}
 use Rattle.cla_cli.specs.declared.status.BadKind.{BadKind}
 use Rattle.cla_cli.specs.declared.status.BadKind.TheVariants as kind
-use Rattle.cla_cli.specs.declared.status.FileFault.TheVariants as file
 use Rattle.cla_cli.specs.Limits.{script_limit, table_limit, most_budget}
-use Rattle.cla_cli.specs.Words.{Command, RunScript, StatsOf, accepted_command}
+use Rattle.cla_words.specs.Words.{Command, Run, Pack, Unpack, Stats, accepted_command}
+use Rattle.cla_cli.specs.declared.writing.Form.{Form}
+use Rattle.cla_cli.specs.declared.writing.Form.TheVariants as form
 use Rattle.cla_cli.specs.Texts.{usage_line, missing_line, limit_line, script_line, table_line, operator_line, budget_line}
 use Rattle.cla_cli.specs.Stats.{stats_text}
-use Rattle.cla_cli.specs.Statements.{Trace, printing, trace_of, script_work, are_built, files_read}
+use Rattle.cla_cli.specs.Statements.{Trace, printing, replacing, trace_of, script_work, are_built, files_read}
+use Rattle.cla_cli.specs.Forms.{file_of}
 
 pub record Outcome : Type 0 where
   pub status : Status
@@ -110,24 +113,26 @@ unless_token (Err fault) = Err (refusal_at fault.place (kind.Script fault.kind))
 abbrev pub checked_script : ℕ → List ℕ → Result (List Statement) Refusal
 checked_script bits text = unless_token (script_in bits text)
 
--- a text is no table: it passes the limit of cells or of bytes, or has another fault
-abbrev pub table_status : MtxFault → Status
-table_status (mtx.TooLarge rows cols) = Limit
-table_status mtx.TooLong = Limit
-table_status fault = BadFile (file.Mtx fault)
+-- a file is no table: it passes the limit of cells or of bytes, or has another fault
+abbrev pub table_status : FileFault → Status
+table_status (file.Mtx (mtx.TooLarge rows cols)) = Limit
+table_status (file.Mtx mtx.TooLong) = Limit
+table_status (file.Pack (pack.TooLarge rows cols)) = Limit
+table_status (file.Pack pack.TooLong) = Limit
+table_status fault = BadFile fault
 
-abbrev pub table_refusal : List ℕ → MtxFault → Refusal
+abbrev pub table_refusal : List ℕ → FileFault → Refusal
 table_refusal name fault = record { status = table_status fault; line = table_line name fault }
 
-abbrev pub table_or_refusal : List ℕ → Result Matrix MtxFault → Result Matrix Refusal
-table_or_refusal name (Ok m) = Ok m
+abbrev pub table_or_refusal : List ℕ → Result TableFile FileFault → Result TableFile Refusal
+table_or_refusal name (Ok table) = Ok table
 table_or_refusal name (Err fault) = Err (table_refusal name fault)
 
--- the check of a table's text: the matrix that it spells as a Matrix Market file, or its first fault
-abbrev pub checked_table : ℕ → List ℕ → List ℕ → Result Matrix Refusal
-checked_table bits name text = table_or_refusal name (matrix_in bits table_limit text)
+-- the check of a table's file: the table that it holds, as a packed file or as Matrix Market text, or its first fault
+abbrev pub checked_table : ℕ → List ℕ → List ℕ → Result TableFile Refusal
+checked_table bits name bytes = table_or_refusal name (table_in bits table_limit bytes)
 
--- a table's cut takes more bytes, as a packed file, than a budget
+-- a table takes more bytes, as a packed file, than a budget
 abbrev pub budget_refusal : List ℕ → ℕ → ℕ → Refusal
 budget_refusal name needed budget = record { status = OverBudget needed budget; line = budget_line name needed budget }
 
@@ -135,17 +140,16 @@ abbrev pub unless_larger : List ℕ → ℕ → ℕ → Outcome → Outcome
 unless_larger name budget size next = if nat_le size budget then next else refused (budget_refusal name size budget)
 
 -- the table of this name, within a budget, and the tables of these names one after the other
-abbrev pub with_table : ℕ → ℕ → Told → List ℕ → (Matrix → Outcome) → Outcome
+abbrev pub with_table : ℕ → ℕ → Told → List ℕ → (TableFile → Outcome) → Outcome
 with_table bits budget told name next =
     needing name
     (unless_missing name (fin.get told name)
-    (λ text. unless_refused (checked_table bits name text)
-    (λ m. unless_larger name budget (packed_size (grouping_of m)) (next m))))
+    (λ bytes. unless_refused (checked_table bits name bytes) (λ t. unless_larger name budget t.bytes (next t))))
 
 abbrev pub with_tables : ℕ → ℕ → Told → List (List ℕ) → (List Matrix → Outcome) → Outcome
 with_tables bits budget told [] next = next []
 with_tables bits budget told (name ∷ names) next =
-    with_table bits budget told name (λ m. with_tables bits budget told names (λ ms. next (m ∷ ms)))
+    with_table bits budget told name (λ t. with_tables bits budget told names (λ ms. next (t.matrix ∷ ms)))
 
 -- all operators were evaluated, or one failed
 abbrev pub status_after : Option (Place × OpFault) → Status
@@ -205,7 +209,16 @@ text_outcome text = evaluated zero_counts (printing text)
 
 -- how the table of this name is grouped, whatever it takes
 abbrev pub stats_outcome : ℕ → Told → List ℕ → Outcome
-stats_outcome bits told name = with_table bits most_budget told name (λ m. text_outcome (stats_text m))
+stats_outcome bits told name = with_table bits most_budget told name (λ t. text_outcome (stats_text t))
+
+-- a file is written, and no operator is counted
+abbrev pub file_outcome : List ℕ → List ℕ → Outcome
+file_outcome name bytes = evaluated zero_counts (replacing name bytes)
+
+-- the table of the first name is written as a file of the second one, in this form
+abbrev pub written_outcome : Form → ℕ → ℕ → Told → List ℕ → List ℕ → Outcome
+written_outcome form bits budget told from to =
+    with_table bits budget told from (λ t. file_outcome to (file_of form t.matrix))
 
 -- the budget that was asked for, or the greatest one
 abbrev pub budget_or_most : Option ℕ → ℕ
@@ -213,10 +226,13 @@ budget_or_most None = most_budget
 budget_or_most (Some budget) = budget
 
 abbrev pub command_outcome : ℕ → Told → Command → Outcome
-command_outcome bits told (RunScript name budget) = script_outcome bits (budget_or_most budget) told name
-command_outcome bits told (StatsOf name) = stats_outcome bits told name
+command_outcome bits told (Run script budget) = script_outcome bits (budget_or_most budget) told script
+command_outcome bits told (Pack table packed budget) =
+    written_outcome form.Packed bits (budget_or_most budget) told table packed
+command_outcome bits told (Unpack packed table) = written_outcome form.Market bits most_budget told packed table
+command_outcome bits told (Stats table) = stats_outcome bits told table
 
 -- what these words come to over files that hold this, with numbers of this many bits: the checks come in this order,
 -- and the first refusal decides
 abbrev pub outcome_of : ℕ → List (List ℕ) → Told → Outcome
-outcome_of bits words told = unless_usage (accepted_command bits words) (command_outcome bits told)
+outcome_of bits words told = unless_usage (accepted_command words) (command_outcome bits told)

@@ -34,6 +34,8 @@ Comes o told told' old new out out' (Err (unfinished.Unread line)) =
     MayEnd o told told' old new out out' ReadFailed (Some line)
 Comes o told told' old new out out' (Err unfinished.OutputUnwritten) = MayEnd o told told' old new out out' WriteFailed
     (Some (unwritable_line (Out [])))
+Comes o told told' old new out out' (Err (unfinished.FileUnwritten line)) =
+    MayEnd o told told' old new out out' WriteFailed (Some line)
 Comes o told told' old new out out' (Err unfinished.Memory) =
     MayEnd o told told' old new out out' OutOfMemory (Some memory_line)
 
@@ -54,6 +56,8 @@ HasEnding old new before after (Err (unfinished.Unread line)) = FaultsCome old n
     × (new.misses ≡ old.misses)
 HasEnding old new before after (Err unfinished.OutputUnwritten) = FaultsCome old new before after WriteFailed
     × (new.misses ≡ old.misses)
+HasEnding old new before after (Err (unfinished.FileUnwritten line)) = FaultsCome old new before after WriteFailed
+    × (new.misses ≡ old.misses)
 HasEnding old new before after (Err unfinished.Memory) = Unit {0}
 
 -- the operations that were counted on the way
@@ -62,6 +66,7 @@ HasCounts counts before now (Ok u) = RiseBy counts before now
 HasCounts counts before now (Err (unfinished.Unread line)) = now ≡ before
 HasCounts counts before now (Err (unfinished.Refused status line)) = RiseByAtMost counts before now
 HasCounts counts before now (Err unfinished.OutputUnwritten) = RiseByAtMost counts before now
+HasCounts counts before now (Err (unfinished.FileUnwritten line)) = RiseByAtMost counts before now
 HasCounts counts before now (Err unfinished.Memory) = RiseByAtMost counts before now
 
 abbrev pub HasCountsWhereTold : {U : Type 0} → (Told → Outcome) → Option Told → Counts → Counts → Result U Unfinished →
@@ -139,6 +144,7 @@ Lets next o (Ok x) = Reaches o (next x)
 Lets next o (Err (unfinished.Refused status line)) = (o.status ≡ status) × (o.effects ≡ []) × (o.line ≡ Some line)
 Lets next o (Err (unfinished.Unread line)) = (file : List ℕ) × Contains o.needed file × (line ≡ unreadable_line file)
 Lets next o (Err unfinished.OutputUnwritten) = ⊥
+Lets next o (Err (unfinished.FileUnwritten line)) = ⊥
 Lets next o (Err unfinished.Memory) = Unit {0}
 
 -- why the statements ended before the last one, as it is told
@@ -161,4 +167,5 @@ Tells (unfinished.Refused status line) err err' result = TellsLine line status e
 Tells (unfinished.Unread line) err err' result = TellsLine line answer.ReadFault err err' result
 Tells unfinished.OutputUnwritten err err' result =
     TellsLine (unwritable_line (Out [])) answer.WriteFault err err' result
+Tells (unfinished.FileUnwritten line) err err' result = TellsLine line answer.WriteFault err err' result
 Tells unfinished.Memory err err' result = TellsLine memory_line answer.Memory err err' result

@@ -40,35 +40,41 @@ pub record Written : Type 0 where
 abbrev pub written : Option (List ℕ) → ℕ → Written
 written told faults = record { told = told; faults = faults }
 
--- Counts of faults rise with the endings that tell of them and with no other; with want of memory nothing is said,
--- since it may come while another ending is told.
+-- Counts of faults rise with the endings that tell of them and with no other: those of reading, and of writing those of
+-- the output or of the files, one of them alone. With want of memory nothing is said, since it may come while another
+-- ending is told.
 abbrev pub FaultsCome : State → State → ℕ → ℕ → Ending → Type 0
-FaultsCome old new before after Settled = (new.read_faults ≡ old.read_faults) × (after ≡ before)
+FaultsCome old new before after Settled = (new.read_faults ≡ old.read_faults)
+    × ((new.write_faults ≡ old.write_faults) × (after ≡ before))
 FaultsCome old new before after OutOfMemory = Unit {0}
-FaultsCome old new before after ReadFailed = Rose old.read_faults new.read_faults × (after ≡ before)
-FaultsCome old new before after WriteFailed = (new.read_faults ≡ old.read_faults) × Rose before after
+FaultsCome old new before after ReadFailed = Rose old.read_faults new.read_faults
+    × ((new.write_faults ≡ old.write_faults) × (after ≡ before))
+FaultsCome old new before after WriteFailed = (new.read_faults ≡ old.read_faults)
+    × (((new.write_faults ≡ old.write_faults) × Rose before after)
+    ⊎ (Rose old.write_faults new.write_faults × (after ≡ before)))
 
--- the count of faults that belongs to an effect rose; today no command writes a file
-abbrev pub FaultRose : Effect → Written → Written → Type 0
-FaultRose (Out text) out out' = Rose out.faults out'.faults
-FaultRose (File name bytes) out out' = ⊥
+-- the count of faults that belongs to an effect rose: of the output, or of the files that are written
+abbrev pub FaultRose : Effect → State → State → Written → Written → Type 0
+FaultRose (Out text) old new out out' = Rose out.faults out'.faults
+FaultRose (File name bytes) old new out out' = Rose old.write_faults new.write_faults
 
 -- What an ending leaves of the world, and the line that tells it, if there is one. The outcome's effects are all
 -- applied where it decides. A fault of reading is one of a file that the checks read, which all pass before it, and
 -- leaves all as it was. A fault of writing comes before a next effect, whose count of faults rose.
-abbrev pub Leaves : Outcome → World → World → Written → Written → Ending → Option (List ℕ) → Type 0
-Leaves o w v out out' Settled line = (v ≡ applied o.effects w) × (line ≡ o.line)
-Leaves o w v out out' OutOfMemory line = IsFront o.effects w v × (line ≡ Some memory_line)
-Leaves o w v out out' ReadFailed line = (v ≡ w)
+abbrev pub Leaves : Outcome → World → World → State → State → Written → Written → Ending → Option (List ℕ) → Type 0
+Leaves o w v old new out out' Settled line = (v ≡ applied o.effects w) × (line ≡ o.line)
+Leaves o w v old new out out' OutOfMemory line = IsFront o.effects w v × (line ≡ Some memory_line)
+Leaves o w v old new out out' ReadFailed line = (v ≡ w)
     × ((name : List ℕ) × Contains o.needed name × (line ≡ Some (unreadable_line name)))
-Leaves o w v out out' WriteFailed line = (e : Effect) × IsFrontBefore o.effects e w v × FaultRose e out out'
-    × (line ≡ Some (unwritable_line e))
+Leaves o w v old new out out' WriteFailed line = (e : Effect) × IsFrontBefore o.effects e w v
+    × FaultRose e old new out out' × (line ≡ Some (unwritable_line e))
 
 -- a run over files that told and tell this may end so, with this line
 abbrev pub MayEnd : Outcome → Told → Told → State → State → Written → Written → Ending → Option (List ℕ) → Type 0
 MayEnd o told told' old new out out' ending line =
     FaultsCome old new out.faults out'.faults ending
-    × Leaves o (record { told = told; out = out.told }) (record { told = told'; out = out'.told }) out out' ending line
+    × Leaves o (record { told = told; out = out.told }) (record { told = told'; out = out'.told }) old new out
+    out' ending line
 
 -- a line stands on standard error, or a prefix of it where its faults rose
 abbrev pub HasLine : Option (List ℕ) → Written → Written → Type 0
@@ -116,15 +122,14 @@ MissesCome old new status = new.misses ≡ old.misses
 abbrev pub Completes : ℕ → List (List ℕ) → Option Told → State → State → ℕ → ℕ → Status → Type 0
 Completes bits words None old new before after status = Unit {0}
 Completes bits words (Some told) old new before after status =
-    (outcome_of bits words told).status ≡ Done → (Rose old.read_faults new.read_faults → ⊥) → (Rose before after → ⊥)
-    → (status ≡ Done) ⊎ (status ≡ Memory)
+    (outcome_of bits words told).status ≡ Done → (Rose old.read_faults new.read_faults → ⊥)
+    → (Rose old.write_faults new.write_faults → ⊥) → (Rose before after → ⊥) → (status ≡ Done) ⊎ (status ≡ Memory)
 
--- No file is being written, whether files are steady stays, and no count of theirs falls; that of faults of writing
--- stays, since no command writes a file today.
+-- no file is being written, whether files are steady stays, and no count of theirs falls
 pub record Keeps (old new : State) : Type 0 where
   pub writing : new.writing ≡ None
   pub steady : new.steady ≡ old.steady
-  pub write_faults : new.write_faults ≡ old.write_faults
+  pub write_faults : old.write_faults ≤ new.write_faults
   pub read_faults : old.read_faults ≤ new.read_faults
   pub misses : old.misses ≤ new.misses
 

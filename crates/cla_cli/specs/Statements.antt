@@ -4,7 +4,7 @@ use Rattle.std.specs.Prelude.{nat_eq, if◌then◌else◌}
 use Rattle.std.specs.List.{list_all}
 use Rattle.std.specs.Option.{option_map}
 use Rattle.std.specs.Cmp.Lexicographic.{pointwise}
-use Rattle.cla_spec.specs.Effects.{Effect, Out}
+use Rattle.cla_spec.specs.Effects.{Effect, Out, File}
 use Rattle.cla_spec.specs.Matrix.{Matrix, entry, exact_sum, scaled_entry, scaled}
 use Rattle.cla_num.specs.Counts.{Counts, zero_counts}
 use Rattle.cla_num.specs.Fault.{fault_of, exactly, scalar_fault}
@@ -178,6 +178,10 @@ nothing_done = record { effects = []; fault = None }
 -- a text that is all that a command prints
 abbrev pub printing : List ℕ → Trace
 printing text = record { effects = Out text ∷ []; fault = None }
+
+-- a file that is all that a command writes
+abbrev pub replacing : List ℕ → List ℕ → Trace
+replacing name bytes = record { effects = File name bytes ∷ []; fault = None }
 
 -- a statement prints its value before the rest, or its operator fails
 abbrev pub then_prints : Option Valued → Trace → Trace

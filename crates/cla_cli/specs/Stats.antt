@@ -1,12 +1,11 @@
 -- How a table is grouped, as it is told.
 use Rattle.std.specs.Prelude.{ℕ, pos, suc, List, [], ◌∷◌, ◌++◌, length, map, codes}
 use Rattle.cla_spec.specs.Numbers.{decimal_of}
-use Rattle.cla_spec.specs.Matrix.{Matrix}
 use Rattle.cla_layout.specs.declared.kind.Kind.{Kind}
 use Rattle.cla_layout.specs.declared.kind.Kind.TheVariants as kind
-use Rattle.cla_grouping.specs.Tuples.{tuples_in}
-use Rattle.cla_grouping.specs.Grouping.{GroupOf, grouping_of, packed_size}
-use Rattle.cla_cli.specs.declared.stats.GroupStats.{GroupStats}
+use Rattle.cla_tables.specs.declared.stats.GroupStats.{GroupStats}
+use Rattle.cla_tables.specs.TableFiles.{TableFile}
+use Rattle.cla_tables.specs.Stats.{stats_of}
 
 abbrev pub kind_text : Kind → List ℕ
 kind_text kind.Plain = codes "plain"
@@ -35,21 +34,8 @@ head_lines rows cols groups bytes =
     numbered (codes "rows ") rows ++ numbered (codes "\ncolumns ") cols ++ numbered (codes "\ngroups ") groups
     ++ numbered (codes "\nbytes ") bytes ++ codes "\n"
 
--- How many tuples a group of columns has: in a plain group each row has one of its own, in the others the distinct ones
--- count, the tuple of zeros too.
-abbrev pub tuples_by_kind : Kind → Matrix → List ℕ → ℕ
-tuples_by_kind kind.Plain m columns = m.rows
-tuples_by_kind kind.Codes m columns = (tuples_in m columns).distinct
-tuples_by_kind kind.Offsets m columns = (tuples_in m columns).distinct
-tuples_by_kind kind.Runs m columns = (tuples_in m columns).distinct
-
--- what is told of a group of the cut of a matrix
-abbrev pub stats_of : Matrix → GroupOf → GroupStats
-stats_of m g = record
-    { kind = g.kind; width = length g.columns; tuples = tuples_by_kind g.kind m g.columns; bytes = g.bytes }
-
--- what is told of a matrix
-abbrev pub stats_text : Matrix → List ℕ
-stats_text m =
-    head_lines m.rows m.cols (length (grouping_of m).groups) (packed_size (grouping_of m))
-    ++ group_lines 0 (map (stats_of m) (grouping_of m).groups)
+-- what is told of a table
+abbrev pub stats_text : TableFile → List ℕ
+stats_text t =
+    head_lines t.matrix.rows t.matrix.cols (length t.groups) t.bytes
+    ++ group_lines 0 (map (stats_of t.matrix) t.groups)

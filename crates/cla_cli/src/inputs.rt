@@ -15,9 +15,9 @@ ghost use Rattle.cla_cli.specs.Needed.{ReadsNoOther};
 ghost use Rattle.cla_cli.specs.Run.{ReadsOnly};
 ghost use Rattle.cla_cli.specs.Parts.{HasEnding, IsNeeded, Lets, Passes, RefusesAt, TellsFault, TellsUnread, refusal_of_text};
 
+use crate::budget::read_matrix;
 use crate::built::are_built;
 use crate::lines::{limit_line, missing_line, script_line, unreadable_line};
-use crate::matrices::read_matrix;
 use crate::needed::{SCRIPT_BYTES, read_text};
 use crate::status::{BadKind, Status};
 use crate::table::Table;
@@ -179,7 +179,7 @@ fn one_table<N: Number, F: Files>(
     ensures ending { HasEnding (F.state files.old) (F.state files.new) 0 0 result }
     ensures no_other { ReadsNoOther name.now (F.state files.new).reading }
     ensures reads { (told : Told) (next : Matrix → Outcome) → (F.state files.old).told ≡ Some told →
-        Lets next (with_table N.BITS budget told name.now next) result }
+        Lets next (with_table N.BITS budget told name.now (λ t. next t.matrix)) result }
 {
     match read_matrix(alloc, files, name, budget) {
         Ok(m) => match Table::of(alloc, m) {

@@ -1,11 +1,11 @@
 //! The command line: the words, the statuses, and the top call that does all that the program does.
 #![tactic(auto)]
 
+mod budget;
 mod built;
 mod evaluate;
 mod inputs;
 mod lines;
-mod matrices;
 mod names;
 mod needed;
 mod statements;
@@ -15,9 +15,10 @@ mod table;
 mod top;
 mod unfinished;
 mod unread;
-mod words;
+mod writing;
 
 pub use cla_check::ShapeKind;
 pub use cla_script::{Place, ScriptKind};
-pub use status::{BadKind, FileFault, Status, code};
+pub use cla_tables::FileFault;
+pub use status::{BadKind, Status, code};
 pub use top::run;

@@ -1,16 +1,18 @@
 //! The lines that the program writes.
 
-ghost use Rattle.std.specs.Prelude.{◌≡◌, ◌++◌, IfOk, OnOk, codes, pos};
+ghost use Rattle.std.specs.Prelude.{◌≡◌, ◌++◌, [], IfOk, OnOk, codes, pos};
+ghost use Rattle.cla_spec.specs.Effects.{File};
 ghost use Rattle.cla_spec.specs.Numbers.{decimal_of};
-ghost use Rattle.cla_market.specs.declared.fault.MtxFault.TheVariants as mtx;
-ghost use Rattle.cla_cli.specs.Texts.{missing_line, unreadable_line, more_bytes_text, limit_line, script_line, bad_line_text, table_fault_text, table_word, table_line, bad_kind_text, script_kind_text, shape_kind_text, operator_line, reason_text, budget_line};
+ghost use Rattle.cla_cli.specs.Texts.{missing_line, unreadable_line, unwritable_line, more_bytes_text, limit_line, script_line, bad_line_text, shape_text, line_fault_text, field_text, bad_field_text, packed_fault_text, table_fault_text, table_word, table_line, bad_kind_text, script_kind_text, shape_kind_text, operator_line, reason_text, budget_line};
 
 use crate::needed::TABLE_BYTES;
 use crate::status::BadKind;
 use cla_check::ShapeKind;
 use cla_mtx::MtxFault;
 use cla_num::{Memory, OpFault, What, Wide};
+use cla_pack::{FieldName, PackFault};
 use cla_script::{Place, ScriptKind};
+use cla_tables::FileFault;
 use cla_text::Text;
 use std::alloc::Global;
 
@@ -28,6 +30,13 @@ pub(crate) fn unreadable_line(alloc: Global, name: &str) -> Result<Text, Memory>
     line_of(alloc, b"cannot read ", name, b"\n")
 }
 
+/// The line that tells that a file can't be written.
+pub(crate) fn unwritable_line(alloc: Global, name: &str) -> Result<Text, Memory>
+    ensures { IfOk result (λ line. line ≡ unwritable_line (File name.now [])) }
+{
+    line_of(alloc, b"cannot write ", name, b"\n")
+}
+
 /// The line that tells that a file has more bytes than its limit.
 pub(crate) fn limit_line(alloc: Global, name: &str, limit: u64) -> Result<Text, Memory>
     ensures { IfOk result (λ line. line ≡ limit_line name.now limit) }
@@ -39,7 +48,7 @@ pub(crate) fn limit_line(alloc: Global, name: &str, limit: u64) -> Result<Text, 
 }
 
 /// The line that tells why a table is refused.
-pub(crate) fn table_line(alloc: Global, name: &str, fault: MtxFault) -> Result<Text, Memory>
+pub(crate) fn table_line(alloc: Global, name: &str, fault: FileFault) -> Result<Text, Memory>
     ensures { IfOk result (λ line. line ≡ table_line name.now fault) }
 {
     let mut line = line_of(alloc, table_word(fault), name, b": ")?;
@@ -110,18 +119,30 @@ fn line_of(alloc: Global, before: &[u8], name: &str, behind: &[u8]) -> Result<Te
 }
 
 // What a table's line begins with.
-fn table_word(fault: MtxFault) -> &'static [u8]
+fn table_word(fault: FileFault) -> &'static [u8]
     ensures { result.now ≡ table_word fault }
 {
     match fault {
-        MtxFault::TooLarge { rows: _, cols: _ } | MtxFault::TooLong => b"limit ",
+        FileFault::Mtx(MtxFault::TooLarge { rows: _, cols: _ } | MtxFault::TooLong)
+        | FileFault::Pack(PackFault::TooLarge { rows: _, cols: _ } | PackFault::TooLong) =>
+            b"limit ",
         _ => b"bad file ",
     }
 }
 
 // What is wrong with a table.
-fn push_fault(line: &mut Text, fault: MtxFault) -> Result<(), Memory>
+fn push_fault(line: &mut Text, fault: FileFault) -> Result<(), Memory>
     ensures { OnOk result (line.new ≡ line.old ++ table_fault_text fault) }
+{
+    match fault {
+        FileFault::Mtx(fault) => push_line_fault(line, fault),
+        FileFault::Pack(fault) => push_packed_fault(line, fault),
+    }
+}
+
+// What is wrong with a Matrix Market text.
+fn push_line_fault(line: &mut Text, fault: MtxFault) -> Result<(), Memory>
+    ensures { OnOk result (line.new ≡ line.old ++ line_fault_text fault) }
 {
     match fault {
         MtxFault::Banner { line: n } => push_bad_line(line, n, b"Banner"),
@@ -150,8 +171,55 @@ fn push_bad_line(line: &mut Text, n: u64, kind: &[u8]) -> Result<(), Memory>
     line.push(kind)
 }
 
+// What is wrong with a packed file.
+fn push_packed_fault(line: &mut Text, fault: PackFault) -> Result<(), Memory>
+    ensures { OnOk result (line.new ≡ line.old ++ packed_fault_text fault) }
+{
+    match fault {
+        PackFault::Field { group, field, at } => push_bad_field(line, group, field, at),
+        PackFault::Trailing { at } => push_numbered(line, b"trailing byte at ", at),
+        PackFault::TooLarge { rows, cols } => push_shape(line, rows, cols),
+        PackFault::TooLong => push_more_bytes(line, TABLE_BYTES),
+        PackFault::Read => line.push(b"Read"),
+        PackFault::Memory => line.push(b"Memory"),
+    }
+}
+
+fn push_bad_field(line: &mut Text, group: u32, field: FieldName, at: u64) -> Result<(), Memory>
+    ensures { OnOk result (line.new ≡ line.old ++ bad_field_text group field at) }
+{
+    push_numbered(line, b"group ", u64::from(group))?;
+    line.push(b" ")?;
+    line.push(field_text(field))?;
+    push_numbered(line, b" at ", at)
+}
+
+fn field_text(field: FieldName) -> &'static [u8]
+    ensures { result.now ≡ field_text field }
+{
+    match field {
+        FieldName::Magic => b"magic",
+        FieldName::Rows => b"rows",
+        FieldName::Columns => b"columns",
+        FieldName::Groups => b"groups",
+        FieldName::Kind => b"kind",
+        FieldName::Width => b"width",
+        FieldName::Column => b"column",
+        FieldName::Tuples => b"tuples",
+        FieldName::Rest => b"rest",
+        FieldName::Value => b"value",
+        FieldName::Code => b"code",
+        FieldName::Count => b"count",
+        FieldName::Offset => b"offset",
+        FieldName::Runs => b"runs",
+        FieldName::Gap => b"gap",
+        FieldName::Length => b"length",
+        FieldName::Cover => b"cover",
+    }
+}
+
 fn push_shape(line: &mut Text, rows: u32, cols: u32) -> Result<(), Memory>
-    ensures { OnOk result (line.new ≡ line.old ++ table_fault_text (mtx.TooLarge rows cols)) }
+    ensures { OnOk result (line.new ≡ line.old ++ shape_text rows cols) }
 {
     line.push_int(i128::from(rows))?;
     line.push(b" by ")?;

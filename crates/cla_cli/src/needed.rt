@@ -4,12 +4,14 @@ ghost use Rattle.std.specs.Prelude.{◌≡◌, ◌≤◌, OnOk, IfOk, None, leng
 ghost use Rattle.cla_io.specs.Reads.{OnlyReads};
 ghost use Rattle.cla_num.specs.Bits.{IsSupported};
 ghost use Rattle.cla_cli.specs.Limits.{script_limit};
-ghost use Rattle.cla_cli.specs.Needed.{HasUnreadCause, ReadsNoOther, Opens, ReadsText, ReadsTable};
+ghost use Rattle.cla_cli.specs.Needed.{HasUnreadCause, ReadsNoOther, Opens, ReadsText, ReadsTable, unread_by};
 
 use crate::unread::{TooLong, Unread};
 use cla_io::{Files, InFault, Input, Stop};
-use cla_mtx::{MtxFault, read_mtx};
-use cla_num::{Dense, Number};
+use cla_mtx::MtxFault;
+use cla_num::Number;
+use cla_pack::PackFault;
+use cla_tables::{FileFault, TableFile};
 use std::alloc::Global;
 
 /// How many bytes a script may have.
@@ -46,12 +48,12 @@ pub(crate) fn read_text<F: Files>(
     }
 }
 
-/// The table of this name.
+/// The table of this name, in either form.
 pub(crate) fn read_table<N: Number, F: Files>(
     alloc: Global,
     files: &mut F,
     name: &str,
-) -> Result<Dense<N>, Unread<MtxFault>>
+) -> Result<TableFile<N>, Unread<FileFault>>
     requires bits { IsSupported N.BITS }
     requires idle { (F.state files.old).writing ≡ None }
     ensures frame { OnlyReads (F.state files.old) (F.state files.new) }
@@ -66,11 +68,20 @@ pub(crate) fn read_table<N: Number, F: Files>(
     let Ok(mut input) = Input::new(alloc, files, TABLE_BYTES) else {
         return Err(Unread::Memory);
     };
-    match read_mtx(alloc, &mut input) {
-        Ok(m) => Ok(m),
-        Err(MtxFault::Read) => Err(Unread::Fault),
-        Err(MtxFault::Memory) => Err(Unread::Memory),
-        Err(fault) => Err(Unread::Refused(fault)),
+    match cla_tables::read_table(alloc, &mut input) {
+        Ok(table) => Ok(table),
+        Err(fault) => Err(unread_by(fault)),
+    }
+}
+
+// Why a file that is there isn't read as a table.
+fn unread_by(fault: FileFault) -> Unread<FileFault>
+    ensures { result ≡ unread_by fault }
+{
+    match fault {
+        FileFault::Mtx(MtxFault::Read) | FileFault::Pack(PackFault::Read) => Unread::Fault,
+        FileFault::Mtx(MtxFault::Memory) | FileFault::Pack(PackFault::Memory) => Unread::Memory,
+        fault => Unread::Refused(fault),
     }
 }
 

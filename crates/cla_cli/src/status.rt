@@ -7,8 +7,9 @@ ghost use Rattle.cla_cli.specs.Outcome.{table_status};
 use cla_check::ShapeKind;
 use cla_mtx::MtxFault;
 use cla_num::OpFault;
+use cla_pack::PackFault;
 use cla_script::{Place, ScriptKind};
-use thiserror::Error;
+use cla_tables::FileFault;
 
 /// What a command line comes to. [`code`] gives the exit status of the process.
 #[derive(Clone, Copy, Debug, PartialEq, Eq)]
@@ -27,7 +28,7 @@ pub enum Status {
     WriteFault,
     /// The script isn't of the form that runs.
     BadScript { place: Place, kind: BadKind },
-    /// A table isn't of the form that is read: the first fault of its text.
+    /// A table isn't of a form that is read: the first fault of its text or of its packed file.
     BadFile { fault: FileFault },
     /// A script has too many bytes, or a table too many bytes or cells.
     Limit,
@@ -45,22 +46,16 @@ pub enum BadKind {
     Unbuilt,
 }
 
-/// Why a table is refused.
-#[derive(Clone, Copy, Debug, PartialEq, Eq, Error)]
-pub enum FileFault {
-    #[error("not a Matrix Market file")]
-    Mtx(MtxFault),
-}
-
 /// The status of a table with this fault.
-pub(crate) fn table_status(fault: MtxFault) -> Status
+pub(crate) fn table_status(fault: FileFault) -> Status
     ensures { result ≡ table_status fault }
 {
     match fault {
-        MtxFault::TooLarge { rows: _, cols: _ } | MtxFault::TooLong => Status::Limit,
-        _ => Status::BadFile {
-            fault: FileFault::Mtx(fault),
-        },
+        FileFault::Mtx(MtxFault::TooLarge { rows: _, cols: _ } | MtxFault::TooLong)
+        | FileFault::Pack(PackFault::TooLarge { rows: _, cols: _ } | PackFault::TooLong) => {
+            Status::Limit
+        }
+        _ => Status::BadFile { fault },
     }
 }
 

@@ -1,35 +1,39 @@
 //! The top call.
 
-ghost use Rattle.std.specs.Prelude.{◌≡◌, ◌⊎◌, ◌≤◌, map, string_bytes, None};
+ghost use Rattle.std.specs.Prelude.{◌≡◌, ◌⊎◌, ◌≤◌, ℕ, map, string_bytes, None};
 ghost use Rattle.cla_num.specs.Bits.{IsSupported};
 ghost use Rattle.cla_num.specs.Counts.{AreBelow, run_bound};
 ghost use Rattle.cla_io.specs.Reads.{OnlyReads};
-ghost use Rattle.cla_cli.specs.Words.{accepted_command, command_of};
-ghost use Rattle.cla_cli.specs.Outcome.{command_outcome, script_outcome, stats_outcome};
-ghost use Rattle.cla_cli.specs.Run.{ending_of, FaultsCome, MissesCome, EndsWhereTold, Completes, CountsWhereTold, ReadsOnlyNeeded, Keeps, written};
+ghost use Rattle.cla_words.specs.Asked.{asked};
+ghost use Rattle.cla_words.specs.Words.{accepted_command};
+ghost use Rattle.cla_cli.specs.Outcome.{command_outcome, script_outcome, stats_outcome, written_outcome};
+ghost use Rattle.cla_cli.specs.Run.{ending_of, FaultsCome, MissesCome, EndsWhereTold, Completes, CountsWhereTold, ReadsOnlyNeeded, Keeps, Written, written};
 ghost use Rattle.cla_cli.specs.Parts.{ComesWhereTold, HasEnding, HasCountsWhereTold, IsNeededWhereTold, TellsHalt, Tells, TellsLine};
 
+use crate::budget::{MOST_BUDGET, budget_or_most, read_matrix, read_within};
 use crate::inputs::{Inputs, read_inputs};
 use crate::lines::operator_line;
-use crate::matrices::read_matrix;
 use crate::statements::{Halted, put_text, run_statements};
 use crate::stats::stats_text;
 use crate::status::Status;
 use crate::unfinished::Unfinished;
-use crate::words::{Command, MOST_BUDGET, accepted, budget_or_most};
+use crate::writing::{Form, tell_unwritten, write_file};
 use cla_io::{Files, Sink, Stop, put_all};
 use cla_num::{Dense, Meter, Number};
+use cla_tables::TableFile;
+use cla_words::{Command, read_command};
 use std::alloc::Global;
 
 /// Does all that the program does on these words, the command line's after the program's name.
 ///
-/// Today they are `run SCRIPT`, with `--budget N` or `--budget=N` before or behind the script, and
-/// `stats TABLE`. A script reads tables, and prints numbers, tables, their sums, the sums of their
-/// products with a number, and how many rows and columns they have. The checks come in this order, and
-/// the first refusal decides: the words, the script's text, each table in the order of its reads, with
-/// the bytes of its cut against the budget, the shapes; then each statement is evaluated and printed in
-/// turn. `stats` reads its table by the same checks and prints how it is grouped. What the words come to
-/// is `outcome_of` them and of what the files hold, unless memory is wanting or a file, the output or
+/// Today they are `run SCRIPT` and `pack TABLE PACKED`, each with `--budget N` or without it,
+/// `unpack PACKED TABLE`, and `stats TABLE`. A script reads tables, and prints numbers, tables, their
+/// sums, the sums of their products with a number, and how many rows and columns they have. The checks
+/// come in this order, and the first refusal decides: the words, the script's text, each table in the
+/// order of its reads, with the bytes of its cut against the budget, the shapes; then each statement is
+/// evaluated and printed in turn. The other commands read one table by the same checks: `stats` prints
+/// how it is grouped, `pack` and `unpack` then write it as another file. What the words come to is
+/// `outcome_of` them and of what the files hold, unless memory is wanting or a file, the output or
 /// standard error fails. A line on standard error tells why a command isn't done.
 pub fn run<N: Number, F: Files, O: Sink, E: Sink>(
     alloc: Global,
@@ -50,10 +54,10 @@ pub fn run<N: Number, F: Files, O: Sink, E: Sink>(
         (F.state files.old).told meter.old meter.new result }
     ensures completes { Completes N.BITS (map string_bytes words.now)
         (F.state files.old).told (F.state files.old) (F.state files.new) (O.faults out.old) (O.faults out.new) result }
-    ensures usage { result ≡ Status.Usage → accepted_command N.BITS (map string_bytes words.now) ≡ None }
-    ensures unaccepted { accepted_command N.BITS (map string_bytes words.now) ≡ None →
+    ensures usage { result ≡ Status.Usage → accepted_command (map string_bytes words.now) ≡ None }
+    ensures unaccepted { accepted_command (map string_bytes words.now) ≡ None →
         (result ≡ Status.Usage) ⊎ (result ≡ Status.Memory) }
-    ensures untouched { accepted_command N.BITS (map string_bytes words.now) ≡ None →
+    ensures untouched { accepted_command (map string_bytes words.now) ≡ None →
         (files.new ≡ files.old) × (out.new ≡ out.old) × (meter.new ≡ meter.old) }
     ensures only_needed { ReadsOnlyNeeded N.BITS (map string_bytes words.now)
         (F.state files.old).told (F.state files.old).reading (F.state files.new).reading }
@@ -69,7 +73,10 @@ pub fn run<N: Number, F: Files, O: Sink, E: Sink>(
     ensures err_steady { E.steady err.new ≡ E.steady err.old }
     ensures err_kept { E.kept err.old err.new }
 {
-    let Some(command) = accepted(words) else {
+    let Ok(command) = read_command(alloc, words) else {
+        return tell(err, Unfinished::Memory);
+    };
+    let Some(command) = command else {
         return tell_line(err, b"usage: cla COMMAND WORDS\n", Status::Usage);
     };
     match run_command::<N, F, O>(alloc, command, files, out, meter) {
@@ -89,15 +96,15 @@ fn run_command<N: Number, F: Files, O: Sink>(
     requires bits { IsSupported N.BITS }
     requires room { AreBelow run_bound meter.old }
     requires idle { (F.state files.old).writing ≡ None }
-    ensures comes { ComesWhereTold (λ told. command_outcome N.BITS told (command_of command.entry))
+    ensures comes { ComesWhereTold (λ told. command_outcome N.BITS told (asked command.entry))
         (F.state files.old).told (F.state files.new).told (F.state files.old) (F.state files.new)
         (written (O.told out.old) (O.faults out.old)) (written (O.told out.new) (O.faults out.new)) result }
     ensures ending { HasEnding (F.state files.old) (F.state files.new) (O.faults out.old) (O.faults out.new) result }
-    ensures counts { HasCountsWhereTold (λ told. command_outcome N.BITS told (command_of command.entry))
+    ensures counts { HasCountsWhereTold (λ told. command_outcome N.BITS told (asked command.entry))
         (F.state files.old).told meter.old meter.new result }
-    ensures needed { IsNeededWhereTold (λ told. command_outcome N.BITS told (command_of command.entry))
+    ensures needed { IsNeededWhereTold (λ told. command_outcome N.BITS told (asked command.entry))
         (F.state files.old).told (F.state files.new).reading }
-    ensures frame { OnlyReads (F.state files.old) (F.state files.new) }
+    ensures frame { Keeps (F.state files.old) (F.state files.new) }
     ensures later { O.faults out.old ≤ O.faults out.new }
     ensures steady { O.steady out.new ≡ O.steady out.old }
     ensures kept { O.kept out.old out.new }
@@ -106,6 +113,17 @@ fn run_command<N: Number, F: Files, O: Sink>(
         Command::Run { script, budget } => {
             let budget = budget_or_most(budget);
             run_script::<N, F, O>(alloc, script, budget, files, out, meter)
+        }
+        Command::Pack {
+            table,
+            packed,
+            budget,
+        } => {
+            let budget = budget_or_most(budget);
+            convert::<N, F>(alloc, table, packed, Form::Packed, budget, files)
+        }
+        Command::Unpack { packed, table } => {
+            convert::<N, F>(alloc, packed, table, Form::Market, MOST_BUDGET, files)
         }
         Command::Stats { table } => print_stats::<N, F, O>(alloc, table, files, out),
     }
@@ -147,6 +165,36 @@ fn run_script<N: Number, F: Files, O: Sink>(
     }
 }
 
+// Writes the table of one name as a file of another, in this form. The table is not to take more bytes
+// than the budget.
+fn convert<N: Number, F: Files>(
+    alloc: Global,
+    from: &str,
+    to: &str,
+    form: Form,
+    budget: u64,
+    files: &mut F,
+) -> Result<(), Unfinished>
+    requires bits { IsSupported N.BITS }
+    requires idle { (F.state files.old).writing ≡ None }
+    ensures comes { (out : Written) → ComesWhereTold
+        (λ told. written_outcome form N.BITS budget told from.now to.now) (F.state files.old).told
+        (F.state files.new).told (F.state files.old) (F.state files.new) out out result }
+    ensures ending { (faults : ℕ) → HasEnding (F.state files.old) (F.state files.new) faults faults result }
+    ensures needed { IsNeededWhereTold (λ told. written_outcome form N.BITS budget told from.now to.now)
+        (F.state files.old).told (F.state files.new).reading }
+    ensures frame { Keeps (F.state files.old) (F.state files.new) }
+{
+    let m: Dense<N> = match read_matrix(alloc, files, from, budget) {
+        Ok(m) => m,
+        Err(unfinished) => return Err(unfinished),
+    };
+    match write_file(alloc, &m, form, to, files) {
+        Ok(()) => Ok(()),
+        Err(reason) => Err(tell_unwritten(alloc, to, reason)),
+    }
+}
+
 // Prints how the table of this name is grouped.
 fn print_stats<N: Number, F: Files, O: Sink>(
     alloc: Global,
@@ -167,11 +215,11 @@ fn print_stats<N: Number, F: Files, O: Sink>(
     ensures steady { O.steady out.new ≡ O.steady out.old }
     ensures kept { O.kept out.old out.new }
 {
-    let m: Dense<N> = match read_matrix(alloc, files, name, MOST_BUDGET) {
-        Ok(m) => m,
+    let table: TableFile<N> = match read_within(alloc, files, name, MOST_BUDGET) {
+        Ok(table) => table,
         Err(unfinished) => return Err(unfinished),
     };
-    let Ok(text) = stats_text(alloc, &m) else {
+    let Ok(text) = stats_text(alloc, &table) else {
         return Err(Unfinished::Memory);
     };
     match put_text(text.bytes(), out) {
@@ -208,6 +256,7 @@ fn tell<E: Sink>(err: &mut E, unfinished: Unfinished) -> Status
         Unfinished::OutputUnwritten => {
             tell_line(err, b"cannot write output\n", Status::WriteFault)
         }
+        Unfinished::FileUnwritten { line } => tell_line(err, line.bytes(), Status::WriteFault),
         Unfinished::Memory => tell_line(err, b"out of memory\n", Status::Memory),
     }
 }

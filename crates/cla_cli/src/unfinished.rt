@@ -16,6 +16,8 @@ pub(crate) enum Unfinished {
     Unread { line: Text },
     /// The output can't be written.
     OutputUnwritten,
+    /// A file can't be written.
+    FileUnwritten { line: Text },
     /// Memory is wanting.
     Memory,
 }
@@ -38,6 +40,17 @@ impl Unfinished {
     {
         match line {
             Ok(line) => Unfinished::Unread { line },
+            Err(_) => Unfinished::Memory,
+        }
+    }
+
+    /// A file can't be written, as this line tells; or memory is wanting for it.
+    pub(crate) fn by_write_fault(line: Result<Text, Memory>) -> Unfinished
+        ensures { MatchResult line
+            (λ told. result ≡ unfinished.FileUnwritten told) (λ e. result ≡ unfinished.Memory) }
+    {
+        match line {
+            Ok(line) => Unfinished::FileUnwritten { line },
             Err(_) => Unfinished::Memory,
         }
     }

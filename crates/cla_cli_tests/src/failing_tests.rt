@@ -10,7 +10,7 @@ use std::test::Fail;
 fn missing_files(rt: HostRuntime) -> Result<(), Fail> {
     let none = World {
         script: None,
-        table: Some(SQUARE),
+        table: Some(SQUARE.as_bytes()),
         other: None,
         failing: None,
         failing_write: None,

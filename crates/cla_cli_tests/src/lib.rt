@@ -6,6 +6,8 @@ mod budget_tests;
 #[cfg(test)]
 mod failing_tests;
 #[cfg(test)]
+mod packed_tests;
+#[cfg(test)]
 mod runs;
 #[cfg(test)]
 mod script_tests;

@@ -1,9 +1,10 @@
 //! Runs over files and sinks in memory.
 
+ghost use Rattle.std.specs.Prelude.{◌≡◌, None, IfOk};
 ghost use Rattle.cla_num.specs.Bits.{IsSupported};
 
 use cla_cli::{Status, code, run};
-use cla_io::{CallKind, MemFiles, MemSink};
+use cla_io::{CallKind, Files, MemFiles, MemSink};
 use cla_num::{Meter, Name, Number};
 use std::alloc::Global;
 use std::collections::BTreeMap;
@@ -18,21 +19,40 @@ pub(crate) const SQUARE: &str = "%%MatrixMarket matrix array integer general\n2 
 /// The banner of a table that is given cell by cell.
 pub(crate) const BANNER: &str = "%%MatrixMarket matrix array integer general\n";
 
-/// What a run came to: its status, the exit status, the output and standard error.
+/// What a run came to: its status, the exit status, the output, standard error, and what the file `y.mtx`
+/// holds then.
 #[derive(Drop)]
 pub(crate) struct Came {
     pub(crate) status: Status,
     pub(crate) code: u8,
     pub(crate) out: Vec<u8>,
     pub(crate) err: Vec<u8>,
+    pub(crate) other: Option<Vec<u8>>,
 }
 
-/// The files of a run, and its failing calls.
+impl Came {
+    /// Whether it came to this exit status, and to this on the output and standard error.
+    pub(crate) fn is(&self, code: u8, out: &str, err: &str) -> bool {
+        self.code == code
+            && self.out.as_slice() == out.as_bytes()
+            && self.err.as_slice() == err.as_bytes()
+    }
+
+    /// Whether `y.mtx` holds these bytes.
+    pub(crate) fn wrote(&self, bytes: &[u8]) -> bool {
+        match &self.other {
+            Some(held) => held.as_slice() == bytes,
+            None => false,
+        }
+    }
+}
+
+/// The files of a run, and its failing calls: the script `s`, and the tables `x.mtx` and `y.mtx`.
 #[derive(Drop)]
 pub(crate) struct World<'a> {
     pub(crate) script: Option<&'a str>,
-    pub(crate) table: Option<&'a str>,
-    pub(crate) other: Option<&'a str>,
+    pub(crate) table: Option<&'a [u8]>,
+    pub(crate) other: Option<&'a [u8]>,
     pub(crate) failing: Option<(CallKind, u64)>,
     pub(crate) failing_write: Option<u64>,
     pub(crate) failing_line: Option<u64>,
@@ -41,6 +61,11 @@ pub(crate) struct World<'a> {
 impl<'a> World<'a> {
     /// The script `s` and the table `x.mtx`, and no call that fails.
     pub(crate) fn of(script: &'a str, table: &'a str) -> World<'a> {
+        World::of_bytes(script, table.as_bytes())
+    }
+
+    /// The same, where the table is given by its bytes.
+    pub(crate) fn of_bytes(script: &'a str, table: &'a [u8]) -> World<'a> {
         World {
             script: Some(script),
             table: Some(table),
@@ -60,37 +85,49 @@ pub(crate) fn ran<N: Number>(alloc: Global, words: &[&str], world: &World) -> Re
     for word in words {
         held.push(String::from_str(alloc, word)?)?;
     }
-    let mut files = BTreeMap::new(alloc);
-    if let Some(script) = world.script {
-        files.insert(Name::of(alloc, "s")?, script.as_bytes().to_vec(alloc)?)?;
-    }
-    if let Some(table) = world.table {
-        files.insert(Name::of(alloc, "x.mtx")?, table.as_bytes().to_vec(alloc)?)?;
-    }
-    if let Some(table) = world.other {
-        files.insert(Name::of(alloc, "y.mtx")?, table.as_bytes().to_vec(alloc)?)?;
-    }
-    let mut fail = Vec::new(alloc);
-    if let Some(call) = world.failing {
-        fail.push(call)?;
-    }
-    let mut fail_out = Vec::new(alloc);
-    if let Some(call) = world.failing_write {
-        fail_out.push(call)?;
-    }
-    let mut fail_err = Vec::new(alloc);
-    if let Some(call) = world.failing_line {
-        fail_err.push(call)?;
-    }
-    let mut files = MemFiles::new(files, fail);
-    let mut out = MemSink::new(fail_out);
-    let mut err = MemSink::new(fail_err);
+    let mut files = files_of(alloc, world)?;
+    let mut out = sink(alloc, world.failing_write)?;
+    let mut err = sink(alloc, world.failing_line)?;
     let mut meter = Meter::new();
     let status = run::<N, _, _, _>(alloc, &held, &mut files, &mut out, &mut err, &mut meter);
+    let other = match files.bytes("y.mtx") {
+        Some(bytes) => Some(bytes.to_vec(alloc)?),
+        None => None,
+    };
     Ok(Came {
         status,
         code: code(&status),
         out: out.bytes().to_vec(alloc)?,
         err: err.bytes().to_vec(alloc)?,
+        other,
     })
+}
+
+fn files_of(alloc: Global, world: &World) -> Result<MemFiles, Fail>
+    ensures { IfOk result (λ files. (⟦<MemFiles as Files>⟧.state files).writing ≡ None) }
+{
+    let mut files = BTreeMap::new(alloc);
+    if let Some(script) = world.script {
+        files.insert(Name::of(alloc, "s")?, script.as_bytes().to_vec(alloc)?)?;
+    }
+    if let Some(table) = world.table {
+        files.insert(Name::of(alloc, "x.mtx")?, table.to_vec(alloc)?)?;
+    }
+    if let Some(table) = world.other {
+        files.insert(Name::of(alloc, "y.mtx")?, table.to_vec(alloc)?)?;
+    }
+    let mut fail = Vec::new(alloc);
+    if let Some(call) = world.failing {
+        fail.push(call)?;
+    }
+    Ok(MemFiles::new(files, fail))
+}
+
+// A sink whose call of this number fails.
+fn sink(alloc: Global, failing: Option<u64>) -> Result<MemSink, Fail> {
+    let mut fail = Vec::new(alloc);
+    if let Some(call) = failing {
+        fail.push(call)?;
+    }
+    Ok(MemSink::new(fail))
 }

@@ -162,7 +162,7 @@ fn several_tables(rt: HostRuntime) -> Result<(), Fail> {
     let script = "X = read(\"x.mtx\")\nY = read(\"y.mtx\")\nprint(X)\nX = read(\"y.mtx\")\n\
         print(sum(X)); print(sum(Y)); print(nrow(X)); Y = read(\"x.mtx\"); print(sum(Y * 2))";
     let mut world = World::of(script, SQUARE);
-    world.other = Some("%%MatrixMarket matrix array integer general\n3 1\n-1\n-1\n-1\n");
+    world.other = Some(b"%%MatrixMarket matrix array integer general\n3 1\n-1\n-1\n-1\n");
     let came = ran::<Int<47>>(rt.alloc(), &["run", "s"], &world)?;
     assert_eq!(rt;
         came.out.as_slice(),
@@ -170,7 +170,7 @@ fn several_tables(rt: HostRuntime) -> Result<(), Fail> {
     );
     assert_eq!(rt; came.status, Status::Done);
     assert!(rt; came.err.is_empty());
-    world.other = Some("1 1\n1\n");
+    world.other = Some(b"1 1\n1\n");
     let came = ran::<Int<47>>(rt.alloc(), &["run", "s"], &world)?;
     assert_eq!(rt; came.code, 7);
     assert!(rt; came.out.is_empty());

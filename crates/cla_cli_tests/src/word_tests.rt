@@ -8,7 +8,7 @@ use std::test::Fail;
 #[test]
 fn words(rt: HostRuntime) -> Result<(), Fail> {
     let world = World::of(SCRIPT, SQUARE);
-    let refused: [&[&str]; 22] = [
+    let refused: [&[&str]; 34] = [
         &[],
         &["run"],
         &["stats"],
@@ -31,6 +31,18 @@ fn words(rt: HostRuntime) -> Result<(), Fail> {
         &["run", "--budget", "3", "--budget=3"],
         &["run", "s", "--budget", "3", "--budget=3"],
         &["stats", "x.mtx", "--budget=3"],
+        &["run", "s", "--costs"],
+        &["run", "s", "--costs", "--costs"],
+        &["explain", "s"],
+        &["check", "s"],
+        &["gen", "2", "2", "2", "0", "y.mtx"],
+        &["pack", "x.mtx"],
+        &["pack", "x.mtx", "x.mtx"],
+        &["pack", "x.mtx", "y.mtx", "--budget", "-1"],
+        &["pack", "x.mtx", "y.mtx", "z.mtx"],
+        &["unpack", "x.mtx", "x.mtx"],
+        &["unpack", "x.mtx", "--", "-"],
+        &["unpack", "x.mtx", "y.mtx", "--budget", "3"],
     ];
     for words in refused {
         let came = ran::<Int<47>>(rt.alloc(), words, &world)?;
@@ -47,7 +59,7 @@ fn words(rt: HostRuntime) -> Result<(), Fail> {
 #[test]
 fn budgets(rt: HostRuntime) -> Result<(), Fail> {
     let world = World::of(SCRIPT, SQUARE);
-    let accepted: [&[&str]; 7] = [
+    let accepted: [&[&str]; 8] = [
         &["run", "s"],
         &["run", "s", "--budget", "65"],
         &["run", "--budget", "+65", "s"],
@@ -55,6 +67,7 @@ fn budgets(rt: HostRuntime) -> Result<(), Fail> {
         &["run", "--budget=65", "s"],
         &["run", "s", "--budget", "4294967296"],
         &["run", "--budget=4294967296", "s"],
+        &["run", "--budget=65", "--", "s"],
     ];
     for words in accepted {
         let came = ran::<Int<47>>(rt.alloc(), words, &world)?;

@@ -30,7 +30,7 @@ pub returns-in-Err-clause-ending : goal.returns-in-Err-clause-ending
 returns-in-Err-clause-ending g c =
     ending_after (g.F.Files.state c.args.files.now) (g.F.Files.state c.loop-statement.files)
     (g.F.Files.state c.one_table.new.files) 0 0 c.in-Err.unfinished c.loop-statement.invariant.no_fault
-    c.loop-statement.invariant.no_miss c.in-Err.ensures.ending
+    c.loop-statement.invariant.frame.write_faults c.loop-statement.invariant.no_miss c.in-Err.ensures.ending
 
 pub returns-in-Err-clause-needed : goal.returns-in-Err-clause-needed
 returns-in-Err-clause-needed g c told next there =

@@ -1,6 +1,6 @@
 use Rattle.std.proofs.Common.{refl}
 use Rattle.cla_layout.specs.declared.kind.Kind.TheVariants as kind
-use Rattle.cla_cli.specs.declared.stats.GroupStats.{GroupStats}
+use Rattle.cla_tables.specs.declared.stats.GroupStats.{GroupStats}
 use Rattle.cla_cli.specs.Stats.{group_lines}
 use Rattle.cla_cli.proofs.StatsLaws.{line_appended, lines_end}
 use Rattle.cla_cli.proofs.stats.push_groups.Goals as goal

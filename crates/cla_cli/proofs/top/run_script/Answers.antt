@@ -41,7 +41,8 @@ returns-in-Ok-run_statements-clause-comes g c =
     (script_work [] xs ms) (trace_of g.N.Number.BITS [] xs ms) old new
     (written (g.O.Sink.told c.args.out.now) (g.O.Sink.faults c.args.out.now))
     (written (g.O.Sink.told c.run_statements.new.out) (g.O.Sink.faults c.run_statements.new.out))
-    c.in-Ok.ensures.frame.told reaches c.in-Ok.ensures.ending.0.0 (λ t. c.in-Ok-run_statements.ensures.runs t)
+    c.in-Ok.ensures.frame.told reaches c.in-Ok.ensures.ending.0.0
+    c.in-Ok.ensures.frame.write_faults (λ t. c.in-Ok-run_statements.ensures.runs t)
     c.in-Ok-run_statements.ensures.cause
 
 pub returns-in-Ok-run_statements-clause-counts : goal.returns-in-Ok-run_statements-clause-counts
@@ -84,7 +85,8 @@ returns-clause-comes g c =
     (written (g.O.Sink.told c.args.out.now) (g.O.Sink.faults c.args.out.now))
     (written (g.O.Sink.told c.run_statements.new.out) (g.O.Sink.faults c.run_statements.new.out))
     c.in-Err-run_statements.halted c.tell_halt.result c.in-Ok.ensures.frame.told reaches c.in-Ok.ensures.ending.0.0
-    (λ t. c.in-Err-run_statements.ensures.runs t) c.in-Err-run_statements.ensures.cause c.tell_halt.ensures
+    c.in-Ok.ensures.frame.write_faults (λ t. c.in-Err-run_statements.ensures.runs t)
+    c.in-Err-run_statements.ensures.cause c.tell_halt.ensures
 
 pub returns-clause-counts : goal.returns-clause-counts
 returns-clause-counts g c =

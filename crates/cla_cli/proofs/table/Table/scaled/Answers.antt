@@ -1,8 +1,5 @@
-use Rattle.std.proofs.Common.{◌≡◌, ◌∷◌, [], ℕ, List, map, Err, Ok, refl, ap, sym, subst, ◌*◌, ◌≤◌, ◌∙◌, length, arith}
-use Rattle.cla_spec.specs.Matrix.{most_cells}
+use Rattle.std.proofs.Common.{◌≡◌, ◌∷◌, [], ℕ, List, Ok, refl, sym, subst, ◌*◌, ◌∙◌, length, arith}
 use Rattle.cla_coded.specs.AnyGroups.{any_codes, any_dictionary}
-use Rattle.cla_coded.specs.Parts.{parts_of}
-use Rattle.cla_layout.specs.Values.{values_of}
 use Rattle.cla_meaning.specs.Counts.{HasMaps, HasMapsUpTo}
 use Rattle.cla_cli.proofs.TableLaws.{times, cells_are, cells_few, few_maps, chain_fault_is, chained_is, refused_is, ChainsTo}
 use Rattle.cla_cli.proofs.table.Table.scaled.Goals as goal
