@@ -49,18 +49,24 @@ fn new_name(rt: &HostRuntime, bytes: usize) -> Result<String, Fail> {
     Ok(format!(in rt.alloc(); "{}/cla_io {}{} ", folder.as_str(), now.as_nanos(), rest)?)
 }
 
+// Whether a file that isn't there is written, and read twice with these bytes. It is removed then.
+fn writes_and_reads(rt: &HostRuntime, name: &str, bytes: &[u8]) -> Result<bool, Fail> {
+    let alloc = rt.alloc();
+    let mut files = DiskFiles::new(rt, alloc);
+    let mut is_right = files.begin_read(name) == Ok(false);
+    is_right &= store(&mut files, name, b"", bytes) == Ok(());
+    is_right &= load(alloc, &mut files, name)?.as_slice() == bytes;
+    is_right &= load(alloc, &mut files, name)?.as_slice() == bytes;
+    fs::remove_file(rt, name)?;
+    Ok(is_right)
+}
+
 // The longest name that a file may have has 255 bytes.
 #[test]
-fn writes_and_reads_real_files(rt: HostRuntime) -> Result<(), Fail> {
-    let alloc = rt.alloc();
-    let bytes = pattern(alloc)?;
+fn a_real_file_with_the_longest_name(rt: HostRuntime) -> Result<(), Fail> {
+    let bytes = pattern(rt.alloc())?;
     let name = new_name(&rt, 228)?;
-    let mut files = DiskFiles::new(&rt, alloc);
-    assert_eq!(rt; files.begin_read(&name), Ok(false));
-    assert_eq!(rt; store(&mut files, &name, b"", &bytes), Ok(()));
-    assert_eq!(rt; load(alloc, &mut files, &name)?, bytes);
-    assert_eq!(rt; load(alloc, &mut files, &name)?, bytes);
-    fs::remove_file(&rt, name.as_str())?;
+    assert!(rt; writes_and_reads(&rt, &name, &bytes)?);
     Ok(())
 }
 

@@ -5,6 +5,8 @@
 #[cfg(test)]
 mod disk_tests;
 #[cfg(test)]
+mod memory;
+#[cfg(test)]
 mod read_tests;
 #[cfg(test)]
 mod write_tests;

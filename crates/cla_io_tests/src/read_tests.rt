@@ -3,10 +3,9 @@
 ghost use Rattle.std.specs.Prelude.{◌≡◌, ◌≤◌, ◌^◌, None, IsSome, IfOk};
 ghost use Rattle.cla_io.specs.InputFrame.{ReadsOn};
 
+use crate::memory::files_of;
 use cla_io::{CallKind, Drip, Files, InFault, Input, MemFiles, Stop};
-use cla_num::Name;
 use std::alloc::Global;
-use std::collections::BTreeMap;
 use std::test::Fail;
 
 // What a read of three bytes answers, with the buffer after it.
@@ -37,18 +36,11 @@ fn first_bytes<F: Files>(files: &mut F, name: &str) -> Result<Option<[Piece; 4]>
     Ok(Some([one, two, three, four]))
 }
 
-fn two_files(alloc: Global) -> Result<BTreeMap<Name, Vec<u8>>, Fail> {
-    let mut files = BTreeMap::new(alloc);
-    files.insert(Name::of(alloc, "long")?, b"hello".to_vec(alloc)?)?;
-    files.insert(Name::of(alloc, "short")?, b"xy".to_vec(alloc)?)?;
-    Ok(files)
-}
-
 #[test]
 fn reads_in_pieces(rt: HostRuntime) -> Result<(), Fail> {
     let alloc = rt.alloc();
-    let fail = [(CallKind::Read, 2)].to_vec(alloc)?;
-    let mut files = MemFiles::new(two_files(alloc)?, fail);
+    let held = [("long", b"hello".as_slice()), ("short", b"xy")];
+    let mut files = files_of(alloc, &held, &[(CallKind::Read, 2)])?;
     let long = [
         (Ok(3), *b"hel"),
         (Err(Stop::Failed), [0; 3]),
@@ -112,88 +104,107 @@ fn first_lines<F: Files>(
     Ok(Some([one, two, three, four]))
 }
 
+// Whether the first lines of a file, up to a limit, come to these steps. None are wanted where it can't be begun.
+fn come_to<F: Files>(
+    alloc: Global,
+    files: &mut F,
+    place: (&str, u64),
+    want: &[Step],
+) -> Result<bool, Fail>
+    requires idle { (F.state files.old).writing ≡ None }
+    ensures { (F.state files.new).writing ≡ None }
+{
+    let (name, limit) = place;
+    if limit < 8 || limit > 1 << 32 {
+        return Err(Fail::new("no limit"));
+    }
+    match first_lines(alloc, files, name, limit)? {
+        Some(steps) => Ok(!want.is_empty() && steps.starts_with(want)),
+        None => Ok(want.is_empty()),
+    }
+}
+
+// The same for files that hold two.
+fn two_come_to(alloc: Global, place: (&str, u64), want: &[Step]) -> Result<bool, Fail> {
+    let lines = ("lines", b"ab\r\n\nc".as_slice());
+    let nine = ("nine", b"12345678\n".as_slice());
+    let mut files = files_of(alloc, &[lines, nine], &[])?;
+    come_to(alloc, &mut files, place, want)
+}
+
+const LINES: [Step; 4] = [
+    (Ok(true), 1, 4, 2, Some(b'b')),
+    (Ok(true), 2, 5, 0, None),
+    (Ok(true), 3, 6, 1, Some(b'c')),
+    (Ok(false), 4, 6, 1, Some(b'c')),
+];
+
 #[test]
 fn takes_lines_up_to_the_limit(rt: HostRuntime) -> Result<(), Fail> {
     let alloc = rt.alloc();
-    let mut held = BTreeMap::new(alloc);
-    held.insert(Name::of(alloc, "lines")?, b"ab\r\n\nc".to_vec(alloc)?)?;
-    held.insert(Name::of(alloc, "nine")?, b"12345678\n".to_vec(alloc)?)?;
-    let mut files = MemFiles::new(held, Vec::new(alloc));
-    let all = [
-        (Ok(true), 1, 4, 2, Some(b'b')),
-        (Ok(true), 2, 5, 0, None),
-        (Ok(true), 3, 6, 1, Some(b'c')),
-        (Ok(false), 4, 6, 1, Some(b'c')),
-    ];
-    assert_eq!(rt; first_lines(alloc, &mut files, "lines", 8)?, Some(all));
-    assert_eq!(rt; first_lines(alloc, &mut files, "none", 8)?, None);
-    let [whole, ..] = first_lines(alloc, &mut files, "nine", 9)?.unwrap_or(all);
-    assert_eq!(rt; whole, (Ok(true), 1, 9, 8, Some(b'8')));
-    let [cut, ..] = first_lines(alloc, &mut files, "nine", 8)?.unwrap_or(all);
-    assert_eq!(rt; cut, (Err(InFault::TooLong), 0, 0, 0, None));
+    assert!(rt; two_come_to(alloc, ("lines", 8), &LINES)?);
+    assert!(rt; two_come_to(alloc, ("none", 8), &[])?);
+    let whole = (Ok(true), 1, 9, 8, Some(b'8'));
+    assert!(rt; two_come_to(alloc, ("nine", 9), &[whole])?);
+    let cut = (Err(InFault::TooLong), 0, 0, 0, None);
+    assert!(rt; two_come_to(alloc, ("nine", 8), &[cut])?);
     Ok(())
 }
 
 // Files with one, whose lines have 65,533, 7, 0 and 70,000 bytes. Two bytes of the second stand at
 // the end of a buffer of 65,536 bytes.
-fn long_lines(alloc: Global, fail: Vec<(CallKind, u64)>) -> Result<MemFiles, Fail>
+fn long_lines(alloc: Global, fail: &[(CallKind, u64)]) -> Result<MemFiles, Fail>
     ensures { IfOk result (λ files. (⟦<MemFiles as Files>⟧.state files).writing ≡ None) }
 {
     let mut bytes = Vec::from_elem(alloc, b'x', 65_533)?;
     bytes.extend_from_slice(b"\nabcdef\r\r\n\n")?;
     bytes.extend_from_slice(&[b'y'; 70_000])?;
-    let mut files = BTreeMap::new(alloc);
-    files.insert(Name::of(alloc, "long")?, bytes)?;
-    Ok(MemFiles::new(files, fail))
+    files_of(alloc, &[("long", &bytes)], fail)
 }
 
-const LONG_LINES: [Step; 4] = [
-    (Ok(true), 1, 65_534, 65_533, Some(b'x')),
-    (Ok(true), 2, 65_543, 7, Some(b'\r')),
-    (Ok(true), 3, 65_544, 0, None),
-    (Ok(true), 4, 135_544, 70_000, Some(b'y')),
-];
+const FIRST: Step = (Ok(true), 1, 65_534, 65_533, Some(b'x'));
+
+const SECOND: Step = (Ok(true), 2, 65_543, 7, Some(b'\r'));
+
+const THIRD: Step = (Ok(true), 3, 65_544, 0, None);
+
+const FOURTH: Step = (Ok(true), 4, 135_544, 70_000, Some(b'y'));
 
 #[test]
 fn takes_lines_over_the_end_of_the_buffer(rt: HostRuntime) -> Result<(), Fail> {
     let alloc = rt.alloc();
-    let mut files = long_lines(alloc, Vec::new(alloc))?;
-    assert_eq!(rt;
-        first_lines(alloc, &mut files, "long", 135_544)?,
-        Some(LONG_LINES)
-    );
-    let [.., last] = first_lines(alloc, &mut files, "long", 135_543)?.unwrap_or(LONG_LINES);
-    assert_eq!(rt; last, (Err(InFault::TooLong), 3, 65_544, 0, None));
+    let mut files = long_lines(alloc, &[])?;
+    let whole = [FIRST, SECOND, THIRD, FOURTH];
+    assert!(rt; come_to(alloc, &mut files, ("long", 135_544), &whole)?);
+    let cut = [
+        FIRST,
+        SECOND,
+        THIRD,
+        (Err(InFault::TooLong), 3, 65_544, 0, None),
+    ];
+    assert!(rt; come_to(alloc, &mut files, ("long", 135_543), &cut)?);
     Ok(())
 }
 
 #[test]
 fn keeps_the_line_at_a_failed_read(rt: HostRuntime) -> Result<(), Fail> {
     let alloc = rt.alloc();
-    let mut files = long_lines(alloc, [(CallKind::Read, 2)].to_vec(alloc)?)?;
-    let [_, second, ..] = first_lines(alloc, &mut files, "long", 135_544)?.unwrap_or(LONG_LINES);
-    assert_eq!(rt; second, (Err(InFault::Read), 1, 65_534, 65_533, Some(b'x')));
+    let mut files = long_lines(alloc, &[(CallKind::Read, 2)])?;
+    let want = [FIRST, (Err(InFault::Read), 1, 65_534, 65_533, Some(b'x'))];
+    assert!(rt; come_to(alloc, &mut files, ("long", 135_544), &want)?);
     Ok(())
 }
 
 #[test]
-fn takes_lines_of_one_byte_a_read(rt: HostRuntime) -> Result<(), Fail> {
+fn takes_lines_of_few_bytes_a_read(rt: HostRuntime) -> Result<(), Fail> {
     let alloc = rt.alloc();
-    let mut drip = Drip::new(long_lines(alloc, Vec::new(alloc))?, 1);
-    assert_eq!(rt;
-        first_lines(alloc, &mut drip, "long", 135_544)?,
-        Some(LONG_LINES)
-    );
-    Ok(())
-}
-
-#[test]
-fn takes_lines_of_seven_bytes_a_read(rt: HostRuntime) -> Result<(), Fail> {
-    let alloc = rt.alloc();
-    let mut drip = Drip::new(long_lines(alloc, Vec::new(alloc))?, 7);
-    assert_eq!(rt;
-        first_lines(alloc, &mut drip, "long", 135_544)?,
-        Some(LONG_LINES)
-    );
+    let want = [FIRST, SECOND, THIRD, FOURTH];
+    for most in [1, 7] {
+        let mut drip = Drip::new(long_lines(alloc, &[])?, most);
+        assert!(rt;
+            come_to(alloc, &mut drip, ("long", 135_544), &want)?,
+            "at {most}"
+        );
+    }
     Ok(())
 }

@@ -2,10 +2,9 @@
 
 ghost use Rattle.std.specs.Prelude.{◌≡◌, None, IsSome};
 
-use cla_io::{CallKind, Drip, FileSink, Files, MemFiles, MemSink, StdSink, Stop, put_all};
-use cla_num::Name;
+use crate::memory::files_of;
+use cla_io::{CallKind, Drip, FileSink, Files, MemSink, StdSink, Stop, put_all};
 use std::alloc::Global;
-use std::collections::BTreeMap;
 use std::io;
 use std::io::{ErrorKind, Write};
 use std::test::Fail;
@@ -55,9 +54,7 @@ fn comes_to(
     answer: Result<(), Stop>,
     bytes: &[u8],
 ) -> Result<bool, Fail> {
-    let mut files = BTreeMap::new(alloc);
-    files.insert(Name::of(alloc, "name")?, b"old".to_vec(alloc)?)?;
-    let mut files = MemFiles::new(files, [fail].to_vec(alloc)?);
+    let mut files = files_of(alloc, &[("name", b"old")], &[fail])?;
     let stored = store(&mut files, "name", b"abc", b"de");
     Ok(stored == answer && files.bytes("name") == Some(bytes))
 }
@@ -66,19 +63,22 @@ fn comes_to(
 fn writes_with_each_call_failing(rt: HostRuntime) -> Result<(), Fail> {
     let alloc = rt.alloc();
     let failed = Err(Stop::Failed);
-    assert!(rt; comes_to(alloc, (CallKind::BeginWrite, 1), failed, b"old")?);
-    assert!(rt; comes_to(alloc, (CallKind::Write, 1), failed, b"")?);
-    assert!(rt; comes_to(alloc, (CallKind::Write, 2), failed, b"abc")?);
-    assert!(rt; comes_to(alloc, (CallKind::EndWrite, 1), failed, b"abcde")?);
-    assert!(rt; comes_to(alloc, (CallKind::Write, 3), Ok(()), b"abcde")?);
+    for (call, answer, bytes) in [
+        ((CallKind::BeginWrite, 1), failed, b"old".as_slice()),
+        ((CallKind::Write, 1), failed, b""),
+        ((CallKind::Write, 2), failed, b"abc"),
+        ((CallKind::EndWrite, 1), failed, b"abcde"),
+        ((CallKind::Write, 3), Ok(()), b"abcde"),
+    ] {
+        assert!(rt; comes_to(alloc, call, answer, bytes)?, "at {call:?}");
+    }
     Ok(())
 }
 
 #[test]
 fn writes_one_byte_at_a_time(rt: HostRuntime) -> Result<(), Fail> {
     let alloc = rt.alloc();
-    let fail = [(CallKind::Write, 5)].to_vec(alloc)?;
-    let mut drip = Drip::new(MemFiles::new(BTreeMap::new(alloc), fail), 1);
+    let mut drip = Drip::new(files_of(alloc, &[], &[(CallKind::Write, 5)])?, 1);
     assert_eq!(rt; store(&mut drip, "new", b"abc", b"de"), Err(Stop::Failed));
     assert_eq!(rt; store(&mut drip, "new", b"abc", b"de"), Ok(()));
     Ok(())

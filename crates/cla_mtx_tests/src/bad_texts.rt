@@ -7,6 +7,12 @@ use crate::heads::{
 /// A text, as its first line and the rest, and the number of its first bad line.
 pub(crate) type Bad = (&'static str, &'static str, u64);
 
+/// A banner of a text that isn't read, and the place of the first word that isn't known.
+pub(crate) type Unsupported = (&'static str, u8);
+
+/// A text whose size line has too many cells, and the rows and columns.
+pub(crate) type TooLarge = (&'static str, &'static str, u32, u32);
+
 /// Texts without a banner, which are bad at line 1.
 pub(crate) const BANNER: [&str; 17] = [
     "",
@@ -29,8 +35,8 @@ pub(crate) const BANNER: [&str; 17] = [
     "%%MatrixMarket vector sparse real",
 ];
 
-/// Banners of texts that aren't read, with the place of the first word that isn't known.
-pub(crate) const UNSUPPORTED: [(&str, u8); 21] = [
+/// Banners of texts that aren't read.
+pub(crate) const UNSUPPORTED: [Unsupported; 21] = [
     ("%%MatrixMarket vector array integer general\n1 1\n5\n", 2),
     ("%%MatrixMarket matrices array integer general\n1 1\n5\n", 2),
     ("%%MatrixMarket vector sparse real hermitian\n", 2),
@@ -121,8 +127,8 @@ pub(crate) const SIZE: [Bad; 40] = [
     (SYMMETRIC, "1 67108865 0\n", 2),
 ];
 
-/// Size lines of too many cells, with the rows and columns.
-pub(crate) const TOO_LARGE: [(&str, &str, u32, u32); 9] = [
+/// Size lines of too many cells.
+pub(crate) const TOO_LARGE: [TooLarge; 9] = [
     (GENERAL, "8193 8193 0\n", 8193, 8193),
     (GENERAL, "67108865 1 0\n", 67108865, 1),
     (GENERAL, "% c\n1 67108865 0", 1, 67108865),

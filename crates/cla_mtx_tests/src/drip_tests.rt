@@ -18,30 +18,46 @@ fn dripped(alloc: Global, text: &[u8], most: usize) -> Result<Answer, Fail>
     read_from(alloc, &mut files, "x")
 }
 
+// Whether a text spells the matrix of these two rows and columns.
+fn drips_spell(alloc: Global, text: (&str, &str), cells: &[i64], most: usize) -> Result<bool, Fail>
+    requires { 1 ≤ most }
+{
+    let text = joined(alloc, text.0, text.1)?;
+    let m = dripped(alloc, text.as_bytes(), most)??;
+    Ok(is_matrix(&m, 2, 2, cells))
+}
+
+fn fault_of_drips(alloc: Global, text: (&str, &str), most: usize) -> Result<Option<MtxFault>, Fail>
+    requires { 1 ≤ most }
+{
+    let text = joined(alloc, text.0, text.1)?;
+    Ok(dripped(alloc, text.as_bytes(), most)?.err())
+}
+
 #[test]
 fn few_bytes_at_a_time(rt: HostRuntime) -> Result<(), Fail> {
     let alloc = rt.alloc();
-    let pattern = joined(alloc, PATTERN_SYMMETRIC, "2 2 1\n2 1\n")?;
-    let spelled = joined(
-        alloc,
+    let pattern = (PATTERN_SYMMETRIC, "2 2 1\n2 1\n");
+    let spelled = (
         "%%matrixmarket MATRIX Coordinate Integer General\r\n% c\r\n\r\n",
         "2 2 1\r\n 1\t2  +007",
-    )?;
-    let few = joined(alloc, GENERAL, "2 2 3\r\n1 1 1\r\n2 2 1\r")?;
-    let banner = joined(alloc, NONE, "%%MatrixMarket matrix array real general")?;
+    );
+    let few = (GENERAL, "2 2 3\r\n1 1 1\r\n2 2 1\r");
+    let banner = (NONE, "%%MatrixMarket matrix array real general");
+    let place = 4;
     for most in [1, 7] {
-        let m = dripped(alloc, pattern.as_bytes(), most)??;
-        assert!(rt; is_matrix(&m, 2, 2, &[0, 1, 1, 0]), "at {most}");
-        let m = dripped(alloc, spelled.as_bytes(), most)??;
-        assert!(rt; is_matrix(&m, 2, 2, &[0, 7, 0, 0]), "at {most}");
-        let fault = dripped(alloc, few.as_bytes(), most)?.err();
-        assert_eq!(rt; fault, Some(MtxFault::TooFew { line: 5 }), "at {most}");
-        let fault = dripped(alloc, banner.as_bytes(), most)?.err();
-        assert_eq!(rt;
-            fault,
-            Some(MtxFault::Unsupported { place: 4 }),
+        assert!(rt;
+            drips_spell(alloc, pattern, &[0, 1, 1, 0], most)?,
             "at {most}"
         );
+        assert!(rt;
+            drips_spell(alloc, spelled, &[0, 7, 0, 0], most)?,
+            "at {most}"
+        );
+        let fault = fault_of_drips(alloc, few, most)?;
+        assert_eq!(rt; fault, Some(MtxFault::TooFew { line: 5 }), "at {most}");
+        let fault = fault_of_drips(alloc, banner, most)?;
+        assert_eq!(rt; fault, Some(MtxFault::Unsupported { place }), "at {most}");
     }
     Ok(())
 }
@@ -62,36 +78,43 @@ fn lines_over_the_end_of_the_buffer(rt: HostRuntime) -> Result<(), Fail> {
     Ok(())
 }
 
+// The first fault of the padded text with its last bytes, so many, replaced.
+fn fault_behind(
+    alloc: Global,
+    width: usize,
+    cut: usize,
+    end: &[u8],
+) -> Result<Option<MtxFault>, Fail> {
+    let mut text = padded_text(alloc, width)?;
+    text.truncate(text.len().saturating_sub(cut));
+    text.extend_from_slice(end)?;
+    Ok(read_text(alloc, &text)?.err())
+}
+
 // A bad line that crosses the end of the buffer, and one behind it, have their numbers.
 #[test]
 fn faults_behind_the_buffer(rt: HostRuntime) -> Result<(), Fail> {
     let alloc = rt.alloc();
     for width in [65_400, 65_470, 65_480, 70_000, 200_000] {
-        let mut text = padded_text(alloc, width)?;
-        text.extend_from_slice(b"% c\r\n1 1 1")?;
-        let fault = read_text(alloc, &text)?.err();
+        let fault = fault_behind(alloc, width, 0, b"% c\r\n1 1 1")?;
         assert_eq!(rt; fault, Some(MtxFault::TooMany { line: 7 }), "at {width}");
-        let mut text = padded_text(alloc, width)?;
-        text.truncate(text.len().saturating_sub(4));
-        text.extend_from_slice(b"x\r\n")?;
-        let fault = read_text(alloc, &text)?.err();
+        let fault = fault_behind(alloc, width, 4, b"x\r\n")?;
         assert_eq!(rt; fault, Some(MtxFault::Entry { line: 5 }), "at {width}");
     }
     Ok(())
 }
 
-// A text with this byte 70,000 times in its entry.
-fn long_entry(alloc: Global, front: &str, byte: u8, back: &str) -> Result<Vec<u8>, Fail> {
+// What reading a text with this byte 70,000 times in its entry comes to.
+fn long_entry(alloc: Global, front: &str, byte: u8, back: &str) -> Result<Answer, Fail> {
     let mut text = GENERAL.as_bytes().to_vec(alloc)?;
     text.extend_from_slice(front.as_bytes())?;
     text.extend_from_slice(&Vec::from_elem(alloc, byte, 70_000)?)?;
     text.extend_from_slice(back.as_bytes())?;
-    Ok(text)
+    read_text(alloc, &text)
 }
 
 #[test]
 fn words_and_blanks_longer_than_the_buffer(rt: HostRuntime) -> Result<(), Fail> {
-    let alloc = rt.alloc();
     for (front, byte, back) in [
         ("1 1 1\n1 1 ", b'0', "7\n"),
         ("1 1 1\n1 1 +", b'0', "7"),
@@ -102,16 +125,21 @@ fn words_and_blanks_longer_than_the_buffer(rt: HostRuntime) -> Result<(), Fail> 
         ("1 1 1\n%", b'%', "\n1 1 7\n"),
         ("1 1 ", b'0', "1\n1 1 7\n"),
     ] {
-        let m = read_text(alloc, &long_entry(alloc, front, byte, back)?)??;
+        let m = long_entry(rt.alloc(), front, byte, back)??;
         assert!(rt; is_matrix(&m, 1, 1, &[7]), "at {front} {back}");
     }
+    Ok(())
+}
+
+#[test]
+fn faults_of_words_longer_than_the_buffer(rt: HostRuntime) -> Result<(), Fail> {
     for (front, back, want) in [
         ("1 1 1\n1 1 ", "\n", MtxFault::Range { line: 3 }),
         ("1 1 1\n1 ", " 1\n", MtxFault::Index { line: 3 }),
         ("1 1 1\n1 1 ", "x\n", MtxFault::Entry { line: 3 }),
         ("1 1 ", "\n1 1 1\n", MtxFault::Size { line: 2 }),
     ] {
-        let fault = read_text(alloc, &long_entry(alloc, front, b'9', back)?)?.err();
+        let fault = long_entry(rt.alloc(), front, b'9', back)?.err();
         assert_eq!(rt; fault, Some(want), "at {front} {back}");
     }
     Ok(())

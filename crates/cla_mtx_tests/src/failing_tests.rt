@@ -8,6 +8,7 @@ use crate::tables::{COLS, ROWS, array_text, cells};
 use cla_io::{CallKind, Drip};
 use cla_mtx::MtxFault;
 use std::alloc::Global;
+use std::process::Abort;
 use std::test::Fail;
 
 /// How many reads of a test may fail, one after the other.
@@ -28,6 +29,19 @@ fn until_read(alloc: Global, text: &[u8], most: usize) -> Result<(u64, Answer), 
     Err(Fail::new("all reads fail"))
 }
 
+// The same for the two pieces of a text that has a fault.
+fn fault_until_read(
+    alloc: Global,
+    text: (&str, &str),
+    most: usize,
+) -> Result<(u64, Option<MtxFault>), Fail>
+    requires { 1 ≤ most }
+{
+    let text = joined(alloc, text.0, text.1)?;
+    let (n, answer) = until_read(alloc, text.as_bytes(), most)?;
+    Ok((n, answer.err()))
+}
+
 // A good text needs each byte and the end: with one byte a read, each of these reads may fail.
 #[test]
 fn each_read_of_a_good_text(rt: HostRuntime) -> Result<(), Fail> {
@@ -46,48 +60,54 @@ fn each_read_of_a_good_text(rt: HostRuntime) -> Result<(), Fail> {
     Ok(())
 }
 
-// Texts with their fault, and how many reads of one byte come before it: those up to the end of the
-// bad line, and the one that finds the end of the file.
-#[test]
-fn each_read_of_a_bad_text(rt: HostRuntime) -> Result<(), Fail> {
-    let alloc = rt.alloc();
-    for (head, rest, reads, want) in [
-        (NONE, "", 1, MtxFault::Banner { line: 1 }),
-        (
-            NONE,
-            "%MatrixMarket\n1 1\n1\n",
-            14,
-            MtxFault::Banner { line: 1 },
-        ),
-        (GENERAL, "1 1\n1 1\n", 53, MtxFault::Size { line: 2 }),
-        (
-            GENERAL,
-            "1 1 2\n1 1 x\n1 1 1\n",
-            61,
-            MtxFault::Entry { line: 3 },
-        ),
-        (GENERAL, "1 1 2\n1 1 1\n", 62, MtxFault::TooFew { line: 4 }),
-        (
-            GENERAL,
-            "1 1 0\n% c\n1 1 1\n",
-            65,
-            MtxFault::TooMany { line: 4 },
-        ),
-        (
-            ARRAY,
-            "1 1\n140737488355328",
-            64,
-            MtxFault::Range { line: 3 },
-        ),
-    ] {
-        let text = joined(alloc, head, rest)?;
-        let (n, answer) = until_read(alloc, text.as_bytes(), 1)?;
-        assert_eq!(rt; answer.err(), Some(want), "{text}");
-        assert!(rt; reads < n, "{text}");
-        let (_, answer) = until_read(alloc, text.as_bytes(), 65_536)?;
-        assert_eq!(rt; answer.err(), Some(want), "{text}");
+/// A text with its fault, and how many reads of one byte come before it: those up to the end of the
+/// bad line, and the one that finds the end of the file.
+type Faulty = (&'static str, &'static str, u64, MtxFault);
+
+const FAULTY: [Faulty; 7] = [
+    (NONE, "", 1, MtxFault::Banner { line: 1 }),
+    (
+        NONE,
+        "%MatrixMarket\n1 1\n1\n",
+        14,
+        MtxFault::Banner { line: 1 },
+    ),
+    (GENERAL, "1 1\n1 1\n", 53, MtxFault::Size { line: 2 }),
+    (
+        GENERAL,
+        "1 1 2\n1 1 x\n1 1 1\n",
+        61,
+        MtxFault::Entry { line: 3 },
+    ),
+    (GENERAL, "1 1 2\n1 1 1\n", 62, MtxFault::TooFew { line: 4 }),
+    (
+        GENERAL,
+        "1 1 0\n% c\n1 1 1\n",
+        65,
+        MtxFault::TooMany { line: 4 },
+    ),
+    (
+        ARRAY,
+        "1 1\n140737488355328",
+        64,
+        MtxFault::Range { line: 3 },
+    ),
+];
+
+fn need_reads(rt: &impl Abort, alloc: Global, table: &[Faulty]) -> Result<(), Fail> {
+    for (head, rest, reads, want) in table {
+        let (n, fault) = fault_until_read(alloc, (*head, *rest), 1)?;
+        assert_eq!(rt; fault, Some(*want), "{head}{rest}");
+        assert!(rt; *reads < n, "{head}{rest}");
+        let (_, fault) = fault_until_read(alloc, (*head, *rest), 65_536)?;
+        assert_eq!(rt; fault, Some(*want), "{head}{rest}");
     }
     Ok(())
+}
+
+#[test]
+fn each_read_of_a_bad_text(rt: HostRuntime) -> Result<(), Fail> {
+    need_reads(&rt, rt.alloc(), &FAULTY)
 }
 
 #[test]

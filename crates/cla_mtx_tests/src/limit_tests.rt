@@ -20,6 +20,12 @@ fn limited(alloc: Global, text: &[u8], limit: u64) -> Result<Answer, Fail> {
     read_up_to(alloc, &mut files, "x", limit)
 }
 
+// The first fault of the two pieces of a text, of which at most `limit` bytes are taken.
+fn limited_fault(alloc: Global, text: (&str, &str), limit: u64) -> Result<Option<MtxFault>, Fail> {
+    let text = joined(alloc, text.0, text.1)?;
+    Ok(limited(alloc, text.as_bytes(), limit)?.err())
+}
+
 // A good text is needed whole: no byte of it may lie past the limit.
 fn need_all_bytes(rt: &impl Abort, alloc: Global, table: &[Good]) -> Result<(), Fail> {
     for (head, rest, rows, cols, cells) in table {
@@ -41,66 +47,73 @@ fn good_texts_at_their_limit(rt: HostRuntime) -> Result<(), Fail> {
     need_all_bytes(&rt, rt.alloc(), &ARRAYS)
 }
 
-// A bad line stands as soon as its own bytes are within the limit, and no byte before.
-#[test]
-fn bad_lines_before_the_limit(rt: HostRuntime) -> Result<(), Fail> {
-    let alloc = rt.alloc();
-    for (head, rest, least, want) in [
-        (
-            NONE,
-            "%MatrixMarket\n1 1\n1\n",
-            14,
-            MtxFault::Banner { line: 1 },
-        ),
-        (GENERAL, "1 1\n1 1\n", 53, MtxFault::Size { line: 2 }),
-        (
-            GENERAL,
-            "8193 8193 0\n1\n",
-            61,
-            MtxFault::TooLarge {
-                rows: 8193,
-                cols: 8193,
-            },
-        ),
-        (
-            GENERAL,
-            "1 1 2\n1 1 x\n1 1 1\n",
-            61,
-            MtxFault::Entry { line: 3 },
-        ),
-        (
-            GENERAL,
-            "1 1 2\n1 2 1\n1 1 1\n",
-            61,
-            MtxFault::Index { line: 3 },
-        ),
-        (
-            GENERAL,
-            "1 1 1\n1 1 1\nx\n",
-            63,
-            MtxFault::TooMany { line: 4 },
-        ),
-        (
-            GENERAL,
-            "1 1 0\n% c\n1 1 1\nx\n",
-            65,
-            MtxFault::TooMany { line: 4 },
-        ),
-        (GENERAL, "1 1 2\n1 1 1", 60, MtxFault::TooFew { line: 4 }),
-        (
-            ARRAY,
-            "1 1\n140737488355328",
-            63,
-            MtxFault::Range { line: 3 },
-        ),
-    ] {
-        let text = joined(alloc, head, rest)?;
-        let fault = limited(alloc, text.as_bytes(), least)?.err();
-        assert_eq!(rt; fault, Some(want), "{text}");
-        let fault = limited(alloc, text.as_bytes(), least - 1)?.err();
-        assert_eq!(rt; fault, Some(MtxFault::TooLong), "{text}");
+/// A text with its fault, and the least limit at which it has it.
+type Limited = (&'static str, &'static str, u64, MtxFault);
+
+/// A bad line stands as soon as its own bytes are within the limit, and no byte before.
+const LIMITED: [Limited; 9] = [
+    (
+        NONE,
+        "%MatrixMarket\n1 1\n1\n",
+        14,
+        MtxFault::Banner { line: 1 },
+    ),
+    (GENERAL, "1 1\n1 1\n", 53, MtxFault::Size { line: 2 }),
+    (
+        GENERAL,
+        "8193 8193 0\n1\n",
+        61,
+        MtxFault::TooLarge {
+            rows: 8193,
+            cols: 8193,
+        },
+    ),
+    (
+        GENERAL,
+        "1 1 2\n1 1 x\n1 1 1\n",
+        61,
+        MtxFault::Entry { line: 3 },
+    ),
+    (
+        GENERAL,
+        "1 1 2\n1 2 1\n1 1 1\n",
+        61,
+        MtxFault::Index { line: 3 },
+    ),
+    (
+        GENERAL,
+        "1 1 1\n1 1 1\nx\n",
+        63,
+        MtxFault::TooMany { line: 4 },
+    ),
+    (
+        GENERAL,
+        "1 1 0\n% c\n1 1 1\nx\n",
+        65,
+        MtxFault::TooMany { line: 4 },
+    ),
+    (GENERAL, "1 1 2\n1 1 1", 60, MtxFault::TooFew { line: 4 }),
+    (
+        ARRAY,
+        "1 1\n140737488355328",
+        63,
+        MtxFault::Range { line: 3 },
+    ),
+];
+
+fn stand_from(rt: &impl Abort, alloc: Global, table: &[Limited]) -> Result<(), Fail> {
+    for (head, rest, least, want) in table {
+        let fault = limited_fault(alloc, (*head, *rest), *least)?;
+        assert_eq!(rt; fault, Some(*want), "{head}{rest}");
+        let fault = limited_fault(alloc, (*head, *rest), least.saturating_sub(1))?;
+        assert_eq!(rt; fault, Some(MtxFault::TooLong), "{head}{rest}");
     }
     Ok(())
+}
+
+#[test]
+fn bad_lines_before_the_limit(rt: HostRuntime) -> Result<(), Fail> {
+    stand_from(&rt, rt.alloc(), &LIMITED)
 }
 
 // What the first line of the file `x` comes to, up to 40 bytes.

@@ -24,13 +24,22 @@ pub(crate) type Failing = Option<(CallKind, u64)>;
 pub(crate) fn one_file(alloc: Global, bytes: &[u8], failing: Failing) -> Result<MemFiles, Fail>
     ensures { IfOk result (λ files. (⟦<MemFiles as Files>⟧.state files).writing ≡ None) }
 {
+    let fail = calls(alloc, failing)?;
     let mut held = BTreeMap::new(alloc);
-    held.insert(Name::of(alloc, "x")?, bytes.to_vec(alloc)?)?;
-    let mut fail = Vec::new(alloc);
-    if let Some(call) = failing {
-        fail.push(call)?;
-    }
+    hold(alloc, &mut held, bytes)?;
     Ok(MemFiles::new(held, fail))
+}
+
+fn calls(alloc: Global, failing: Failing) -> Result<Vec<(CallKind, u64)>, Fail> {
+    match failing {
+        Some(call) => Ok([call].to_vec(alloc)?),
+        None => Ok(Vec::new(alloc)),
+    }
+}
+
+fn hold(alloc: Global, held: &mut BTreeMap<Name, Vec<u8>>, bytes: &[u8]) -> Result<(), Fail> {
+    held.insert(Name::of(alloc, "x")?, bytes.to_vec(alloc)?)?;
+    Ok(())
 }
 
 /// The text of these two pieces.

@@ -1,7 +1,8 @@
 //! The matrix or the first bad line of each text.
 
 use crate::bad_texts::{
-    BANNER, DIAGONAL, ENTRY, INDEX, RANGE, SIZE, TOO_FEW, TOO_LARGE, TOO_MANY, UNSUPPORTED,
+    BANNER, Bad, DIAGONAL, ENTRY, INDEX, RANGE, SIZE, TOO_FEW, TOO_LARGE, TOO_MANY, TooLarge,
+    UNSUPPORTED, Unsupported,
 };
 use crate::good_texts::{ARRAYS, BANNERS, GENERALS, Good, MIRRORED, SKIPPED};
 use crate::table_files::{is_matrix, joined, read_text};
@@ -41,71 +42,89 @@ fn matrices_of_other_files(rt: HostRuntime) -> Result<(), Fail> {
     spell(&rt, rt.alloc(), &BANNERS)
 }
 
-#[test]
-fn first_lines(rt: HostRuntime) -> Result<(), Fail> {
-    for text in BANNER {
-        let fault = first_fault(rt.alloc(), text, "")?;
+fn have_no_banner(rt: &impl Abort, alloc: Global, table: &[&str]) -> Result<(), Fail> {
+    for text in table {
+        let fault = first_fault(alloc, text, "")?;
         assert_eq!(rt; fault, Some(MtxFault::Banner { line: 1 }), "{text}");
     }
-    for (text, place) in UNSUPPORTED {
-        let fault = first_fault(rt.alloc(), text, "")?;
-        assert_eq!(rt; fault, Some(MtxFault::Unsupported { place }), "{text}");
+    Ok(())
+}
+
+fn are_unsupported(rt: &impl Abort, alloc: Global, table: &[Unsupported]) -> Result<(), Fail> {
+    for (text, place) in table {
+        let want = MtxFault::Unsupported { place: *place };
+        assert_eq!(rt; first_fault(alloc, text, "")?, Some(want), "{text}");
+    }
+    Ok(())
+}
+
+#[test]
+fn first_lines(rt: HostRuntime) -> Result<(), Fail> {
+    have_no_banner(&rt, rt.alloc(), &BANNER)?;
+    are_unsupported(&rt, rt.alloc(), &UNSUPPORTED)
+}
+
+/// Why a line is bad.
+#[derive(Clone, Copy)]
+enum Kind {
+    Size,
+    Entry,
+    Index,
+    Diagonal,
+    Range,
+    TooFew,
+    TooMany,
+}
+
+fn fault_at(kind: Kind, line: u64) -> MtxFault {
+    match kind {
+        Kind::Size => MtxFault::Size { line },
+        Kind::Entry => MtxFault::Entry { line },
+        Kind::Index => MtxFault::Index { line },
+        Kind::Diagonal => MtxFault::Diagonal { line },
+        Kind::Range => MtxFault::Range { line },
+        Kind::TooFew => MtxFault::TooFew { line },
+        Kind::TooMany => MtxFault::TooMany { line },
+    }
+}
+
+fn are_bad(rt: &impl Abort, alloc: Global, table: &[Bad], kind: Kind) -> Result<(), Fail> {
+    for (head, rest, line) in table {
+        let fault = first_fault(alloc, head, rest)?;
+        assert_eq!(rt; fault, Some(fault_at(kind, *line)), "{head}{rest}");
+    }
+    Ok(())
+}
+
+fn are_too_large(rt: &impl Abort, alloc: Global, table: &[TooLarge]) -> Result<(), Fail> {
+    for (head, rest, rows, cols) in table {
+        let (rows, cols) = (*rows, *cols);
+        let want = MtxFault::TooLarge { rows, cols };
+        assert_eq!(rt; first_fault(alloc, head, rest)?, Some(want), "{head}{rest}");
     }
     Ok(())
 }
 
 #[test]
 fn size_lines(rt: HostRuntime) -> Result<(), Fail> {
-    for (head, rest, line) in SIZE {
-        let fault = first_fault(rt.alloc(), head, rest)?;
-        assert_eq!(rt; fault, Some(MtxFault::Size { line }), "{head}{rest}");
-    }
-    for (head, rest, rows, cols) in TOO_LARGE {
-        let fault = first_fault(rt.alloc(), head, rest)?;
-        assert_eq!(rt;
-            fault,
-            Some(MtxFault::TooLarge { rows, cols }),
-            "{head}{rest}"
-        );
-    }
-    Ok(())
+    are_bad(&rt, rt.alloc(), &SIZE, Kind::Size)?;
+    are_too_large(&rt, rt.alloc(), &TOO_LARGE)
 }
 
 #[test]
 fn entry_lines(rt: HostRuntime) -> Result<(), Fail> {
-    for (head, rest, line) in ENTRY {
-        let fault = first_fault(rt.alloc(), head, rest)?;
-        assert_eq!(rt; fault, Some(MtxFault::Entry { line }), "{head}{rest}");
-    }
-    for (head, rest, line) in INDEX {
-        let fault = first_fault(rt.alloc(), head, rest)?;
-        assert_eq!(rt; fault, Some(MtxFault::Index { line }), "{head}{rest}");
-    }
-    Ok(())
+    are_bad(&rt, rt.alloc(), &ENTRY, Kind::Entry)?;
+    are_bad(&rt, rt.alloc(), &INDEX, Kind::Index)
 }
 
 #[test]
 fn values(rt: HostRuntime) -> Result<(), Fail> {
-    for (head, rest, line) in DIAGONAL {
-        let fault = first_fault(rt.alloc(), head, rest)?;
-        assert_eq!(rt; fault, Some(MtxFault::Diagonal { line }), "{head}{rest}");
-    }
-    for (head, rest, line) in RANGE {
-        let fault = first_fault(rt.alloc(), head, rest)?;
-        assert_eq!(rt; fault, Some(MtxFault::Range { line }), "{head}{rest}");
-    }
-    Ok(())
+    are_bad(&rt, rt.alloc(), &DIAGONAL, Kind::Diagonal)?;
+    are_bad(&rt, rt.alloc(), &RANGE, Kind::Range)
 }
 
 #[test]
 fn numbers_of_entries(rt: HostRuntime) -> Result<(), Fail> {
-    for (head, rest, line) in TOO_FEW {
-        let fault = first_fault(rt.alloc(), head, rest)?;
-        assert_eq!(rt; fault, Some(MtxFault::TooFew { line }), "{head}{rest}");
-    }
-    for (head, rest, line) in TOO_MANY {
-        let fault = first_fault(rt.alloc(), head, rest)?;
-        assert_eq!(rt; fault, Some(MtxFault::TooMany { line }), "{head}{rest}");
-    }
-    Ok(())
+    are_bad(&rt, rt.alloc(), &TOO_FEW, Kind::TooFew)?;
+    are_bad(&rt, rt.alloc(), &TOO_MANY, Kind::TooMany)
 }

@@ -5,7 +5,7 @@ ghost use Rattle.std.specs.Prelude.{◌≤◌};
 use crate::good_texts::{ARRAYS, BANNERS, GENERALS, Good, MIRRORED, SKIPPED};
 use crate::heads::{GENERAL, NONE};
 use crate::table_files::{
-    Entry, are_same, bytes_of, is_matrix, joined, one_file, read_from, read_text, write_to,
+    Answer, Entry, are_same, bytes_of, is_matrix, joined, one_file, read_from, read_text, write_to,
 };
 use crate::tables::{array_text, scattered_cells, scattered_text};
 use cla_io::{CallKind, Drip};
@@ -31,32 +31,66 @@ const WRITTEN: [(&str, &str); 6] = [
     ("12 11 1\n12 11 100\n", "12 11 1\n12 11 100\n"),
 ];
 
+// The matrix of a text.
+fn matrix_of(alloc: Global, head: &str, rest: &str) -> Result<Dense<Entry>, Fail> {
+    let text = joined(alloc, head, rest)?;
+    Ok(read_text(alloc, text.as_bytes())??)
+}
+
+// A matrix is written as this text, to a new file and in the place of one that is there.
+fn writes(rt: &impl Abort, alloc: Global, m: &Dense<Entry>, want: &[u8]) -> Result<(), Fail> {
+    let mut files = one_file(alloc, b"old", None)?;
+    for name in ["y", "x"] {
+        assert_eq!(rt; write_to(alloc, &mut files, name, m)?, Ok(()));
+        assert_eq!(rt; files.bytes(name), Some(want));
+    }
+    Ok(())
+}
+
+// What is in a file to which a matrix was written, at most so many bytes at a time.
+fn dripped(alloc: Global, m: &Dense<Entry>, most: usize) -> Result<Vec<u8>, Fail>
+    requires { 1 ≤ most }
+{
+    let mut files = Drip::new(one_file(alloc, b"old", None)?, most);
+    write_to(alloc, &mut files, "x", m)??;
+    bytes_of(alloc, &mut files, "x")
+}
+
 #[test]
 fn texts_that_are_written(rt: HostRuntime) -> Result<(), Fail> {
     let alloc = rt.alloc();
     for (entries, lines) in WRITTEN {
-        let m = read_text(alloc, joined(alloc, GENERAL, entries)?.as_bytes())??;
+        let m = matrix_of(alloc, GENERAL, entries)?;
         let want = joined(alloc, GENERAL, lines)?;
-        let mut files = one_file(alloc, b"old", None)?;
-        for name in ["y", "x"] {
-            assert_eq!(rt; write_to(alloc, &mut files, name, &m)?, Ok(()));
-            assert_eq!(rt; files.bytes(name), Some(want.as_bytes()), "{want}");
-        }
-        for most in [1, 7] {
-            let mut files = Drip::new(one_file(alloc, b"old", None)?, most);
-            assert_eq!(rt; write_to(alloc, &mut files, "x", &m)?, Ok(()));
-            assert_eq!(rt;
-                bytes_of(alloc, &mut files, "x")?.as_slice(),
-                want.as_bytes(),
-                "{want}"
-            );
-        }
+        writes(&rt, alloc, &m, want.as_bytes())?;
+        assert!(rt;
+            dripped(alloc, &m, 1)?.as_slice() == want.as_bytes(),
+            "{want}"
+        );
+        assert!(rt;
+            dripped(alloc, &m, 7)?.as_slice() == want.as_bytes(),
+            "{want}"
+        );
     }
     Ok(())
 }
 
 /// How many writes of a test may fail, one after the other.
 const MOST_WRITES: u64 = 1000;
+
+// What writing a matrix comes to with its n-th write failing, and what is in the file then.
+fn written(
+    alloc: Global,
+    m: &Dense<Entry>,
+    most: usize,
+    n: u64,
+) -> Result<(Result<(), OutFault>, Vec<u8>), Fail>
+    requires { 1 ≤ most }
+{
+    let mut files = Drip::new(one_file(alloc, b"old", Some((CallKind::Write, n)))?, most);
+    let answer = write_to(alloc, &mut files, "x", m)?;
+    Ok((answer, bytes_of(alloc, &mut files, "x")?))
+}
 
 // The number of the first write that may fail while the matrix is written. With each write before
 // failing alone, the answer says so, and the file holds a prefix of the text.
@@ -70,9 +104,7 @@ fn until_written(
     requires { 1 ≤ most }
 {
     for n in 1..=MOST_WRITES {
-        let mut files = Drip::new(one_file(alloc, b"old", Some((CallKind::Write, n)))?, most);
-        let answer = write_to(alloc, &mut files, "x", m)?;
-        let bytes = bytes_of(alloc, &mut files, "x")?;
+        let (answer, bytes) = written(alloc, m, most, n)?;
         assert!(rt; text.starts_with(&bytes), "at {n}");
         if bytes.len() == text.len() {
             assert_eq!(rt; answer, Ok(()), "at {n}");
@@ -87,7 +119,7 @@ fn until_written(
 fn each_write_of_a_text(rt: HostRuntime) -> Result<(), Fail> {
     let alloc = rt.alloc();
     for (entries, lines) in WRITTEN {
-        let m = read_text(alloc, joined(alloc, GENERAL, entries)?.as_bytes())??;
+        let m = matrix_of(alloc, GENERAL, entries)?;
         let want = joined(alloc, GENERAL, lines)?;
         let bytes = want.len() as u64;
         for (most, writes) in [(1, bytes), (7, bytes / 7), (65_536, 1)] {
@@ -98,15 +130,21 @@ fn each_write_of_a_text(rt: HostRuntime) -> Result<(), Fail> {
     Ok(())
 }
 
+// What reading the file comes to, to which a matrix was written.
+fn written_and_read(alloc: Global, m: &Dense<Entry>, most: usize) -> Result<Answer, Fail>
+    requires { 1 ≤ most }
+{
+    let mut files = Drip::new(one_file(alloc, b"old", None)?, most);
+    write_to(alloc, &mut files, "y", m)??;
+    read_from(alloc, &mut files, "y")
+}
+
 // The matrix of a text is read again from the file to which it was written.
 fn reads_again(alloc: Global, head: &str, rest: &str, most: usize) -> Result<bool, Fail>
     requires { 1 ≤ most }
 {
-    let text = joined(alloc, head, rest)?;
-    let m = read_text(alloc, text.as_bytes())??;
-    let mut files = Drip::new(one_file(alloc, b"old", None)?, most);
-    write_to(alloc, &mut files, "y", &m)??;
-    let again = read_from(alloc, &mut files, "y")??;
+    let m = matrix_of(alloc, head, rest)?;
+    let again = written_and_read(alloc, &m, most)??;
     Ok(are_same(&m, &again))
 }
 
