@@ -1,2 +1,3 @@
 pub mod RunsMade
 pub mod WalkSteps
+pub mod CountedRuns

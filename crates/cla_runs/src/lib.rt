@@ -1,6 +1,7 @@
 //! Groups of columns whose rows are kept as runs (PVLDB 9(12): run-length encoding, RLE).
 #![tactic(auto)]
 
+mod counts;
 mod run_list;
 mod run_rows;
 mod runs;

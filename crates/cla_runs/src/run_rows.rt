@@ -8,11 +8,12 @@ ghost use Rattle.cla_layout.specs.Listed.{run_begins};
 ghost use Rattle.cla_rows.specs.Grouped.{AreGrouped};
 ghost use Rattle.cla_rows.specs.CodeRuns.{IsRun, IsListedRun, listed_begins, listed_keys, AreRunsByKey};
 
+use crate::counts::counted_by_run;
 use crate::run_list::{RunList, list_runs};
 use crate::walks::{gather_between, give_code, join_between, part_of};
 use cla_group::Join;
 use cla_num::{Memory, Number, Wide};
-use cla_rows::{Grouped, Occurrences, counted, group_places};
+use cla_rows::{Grouped, Occurrences, group_places};
 use std::alloc::Global;
 use std::marker::Model;
 
@@ -62,7 +63,7 @@ impl RunRows {
         ensures { IfOk result (λ r. r ≡ record { codes = codes.now; tuples = tuples; rest = rest }) }
     {
         let runs = list_runs(alloc, codes, rest)?;
-        let occurrences = counted(alloc, codes, tuples)?;
+        let occurrences = counted_by_run(alloc, codes, tuples)?;
         Ok(RunRows {
             tuples,
             rest,
