@@ -1,5 +1,10 @@
 pub mod ListedRows
+pub mod ListedKeys
+pub mod CountedApart
 pub mod SegmentRows
 pub mod ListPlaces
 pub mod ToldCodes
 pub mod JoinedRows
+pub mod ListedSegments
+pub mod ListCounts
+pub mod ListWalks

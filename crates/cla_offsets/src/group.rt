@@ -1,10 +1,11 @@
 //! The calls of a group of offset lists.
 
-ghost use Rattle.std.specs.Prelude.{◌≡◌, ◌<◌, ◌*◌, ◌/◌, false, length, IfOk};
+ghost use Rattle.std.specs.Prelude.{◌≡◌, ◌<◌, ◌*◌, ◌/◌, false, ℕ, List, length, IfOk};
 ghost use Rattle.cla_layout.specs.Groups.{code_of, IsGroup};
 ghost use Rattle.cla_layout.specs.Tuples.{AreCodes};
-ghost use Rattle.cla_layout.specs.Listed.{is_rest, rest_of};
+ghost use Rattle.cla_layout.specs.Listed.{is_rest, rest_of, numbered_rest};
 ghost use Rattle.cla_offsets.specs.Segments.{segment_rows, segment_offsets};
+ghost use Rattle.cla_offsets.specs.RowLists.{AreRowLists};
 ghost use Rattle.cla_offsets.specs.Members.{tuples_in, offsets_columns, offsets_codes};
 ghost use Rattle.cla_offsets.specs.Members.{offsets_dictionary, offsets_rest};
 
@@ -12,6 +13,7 @@ use crate::offsets::Offsets;
 use crate::rows::OffsetRows;
 use cla_group::{Dictionary, Greatest, Group, Least, Plus};
 use cla_num::{Memory, Number, Wide};
+use cla_rows::Grouped;
 use std::alloc::Global;
 use std::rc::Rc;
 
@@ -33,6 +35,38 @@ impl<N: Number> Offsets<N> {
     {
         let dictionary = Dictionary::of_values(width, values);
         Ok(Offsets::of_codes(alloc, dictionary, codes)?)
+    }
+
+    /// The group of rows that are listed tuple by tuple. `rest` is the number of the tuple without a list,
+    /// and how many tuples there are where each has one; it is the first tuple of zeros, if there is one.
+    /// `first_unlisted` is the first row that no list has, if a tuple is the rest. It takes time and memory
+    /// by the lists and the segments, and not by the rows.
+    pub fn from_lists(
+        alloc: Global,
+        dictionary: Dictionary<N>,
+        rows: u32,
+        lists: &Grouped,
+        rest: u32,
+        first_unlisted: u32,
+    ) -> Result<Offsets<N>, Memory>
+        requires lists { (codes : List ℕ) × IsGroup N.BITS dictionary.width codes dictionary.tuples
+            × (numbered_rest (length dictionary.tuples) rest ≡ rest_of codes dictionary.tuples)
+            × AreRowLists codes rows (length dictionary.tuples) rest first_unlisted lists.now.starts.items
+            lists.now.places.items }
+        ensures columns { IfOk result (λ g. offsets_columns g ≡ dictionary.width) }
+        ensures codes { (codes : List ℕ)
+            → AreRowLists codes rows (length dictionary.tuples) rest first_unlisted lists.now.starts.items
+            lists.now.places.items
+            → IfOk result (λ g. offsets_codes g ≡ codes) }
+        ensures dictionary { IfOk result (λ g. offsets_dictionary g ≡ dictionary.tuples) }
+        ensures rest { IfOk result (λ g. offsets_rest g ≡ rest_of (offsets_codes g) (offsets_dictionary g)) }
+    {
+        let tuples = dictionary.len();
+        let rows = OffsetRows::from_lists(alloc, rows, tuples, rest, lists, first_unlisted)?;
+        Ok(Offsets {
+            dictionary,
+            rows: Rc::new(alloc, rows)?,
+        })
     }
 
     // The group of these codes and tuples.

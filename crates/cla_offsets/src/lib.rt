@@ -2,9 +2,11 @@
 #![tactic(auto)]
 
 mod group;
+mod listed;
 mod lists;
 mod offsets;
 mod owned;
+mod row_lists;
 mod rows;
 mod walks;
 

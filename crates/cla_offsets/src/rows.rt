@@ -1,20 +1,23 @@
 //! Rows that are kept as lists of offsets.
 
-ghost use Rattle.std.specs.Prelude.{◌≡◌, ◌≤◌, ◌<◌, ◌-◌, ◌*◌, ℕ, ℤ, length, map, take, drop, IfOk};
+ghost use Rattle.std.specs.Prelude.{◌≡◌, ◌≤◌, ◌<◌, ◌-◌, ◌*◌, ℕ, ℤ, List, length, map, take, drop, IfOk};
 ghost use Rattle.cla_spec.specs.Matrix.{most_cells};
 ghost use Rattle.cla_num.specs.Bits.{IsSupported};
 ghost use Rattle.cla_layout.specs.Groups.{at, code_of, occurrences_of, first_row_of, Scattered};
 ghost use Rattle.cla_offsets.specs.Segments.{segment_rows, segment_of, list_of, list_begin};
+ghost use Rattle.cla_offsets.specs.RowLists.{AreRowLists};
 ghost use Rattle.cla_offsets.specs.Walks.{MayScatter, MayBeJoined, AreJoined};
 ghost use Rattle.cla_layout.specs.Groups.{AreGathered};
 
+use crate::listed::counted_by_code;
 use crate::lists::{Lists, SEGMENT_ROWS, segment_count, segment_in};
+use crate::row_lists::counted_by_lists;
 use crate::walks::{
     fill_codes, gather_codes, give_code, has_offset, join_codes, join_list, push_part,
 };
 use cla_group::Join;
 use cla_num::{Memory, Number, Wide};
-use cla_rows::{Occurrences, counted};
+use cla_rows::{Grouped, Occurrences};
 use std::alloc::Global;
 use std::marker::Model;
 
@@ -54,7 +57,7 @@ impl OffsetRows {
         requires few_tuples { tuples ≤ most_cells }
         ensures { IfOk result (λ r. r ≡ record { codes = codes.now; tuples = tuples; rest = rest }) }
     {
-        let occurrences = counted(alloc, codes, tuples)?;
+        let occurrences = counted_by_code(alloc, codes, tuples, rest)?;
         let rows = codes.len() as u32;
         let segments = segment_count(rows);
         let starts = segments as usize * (tuples as usize + 1);
@@ -64,6 +67,34 @@ impl OffsetRows {
         for s in 0..segments {
             lists.add_segment(alloc, segment_in(codes, s), tuples, rest)?;
         }
+        Ok(OffsetRows {
+            rows,
+            tuples,
+            rest,
+            lists,
+            occurrences,
+        })
+    }
+
+    /// The rows of these lists: the list of each code but the rest, which has none. `first_unlisted` is the
+    /// first row that has the rest; where no code is the rest, it says nothing. It takes time and memory by
+    /// the lists and the segments, and not by the rows.
+    pub fn from_lists(
+        alloc: Global,
+        rows: u32,
+        tuples: u32,
+        rest: u32,
+        lists: &Grouped,
+        first_unlisted: u32,
+    ) -> Result<OffsetRows, Memory>
+        requires lists { (codes : List ℕ)
+            × AreRowLists codes rows tuples rest first_unlisted lists.now.starts.items lists.now.places.items }
+        ensures { (codes : List ℕ)
+            → AreRowLists codes rows tuples rest first_unlisted lists.now.starts.items lists.now.places.items
+            → IfOk result (λ r. r ≡ record { codes = codes; tuples = tuples; rest = rest }) }
+    {
+        let occurrences = counted_by_lists(alloc, rows, tuples, rest, lists, first_unlisted)?;
+        let lists = Lists::from_lists(alloc, rows, tuples, lists)?;
         Ok(OffsetRows {
             rows,
             tuples,
