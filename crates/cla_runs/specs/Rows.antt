@@ -22,6 +22,12 @@ rows_in_runs tuples rest runs = record {
   rest = rest;
 }
 
+-- rows and their runs
+pub record AreRowsInRuns (rows : RowsOf) (kept : RunList) : Type 0 where
+  pub few : length rows.codes ≤ most_cells
+  pub runs : AreRunsIn kept (length rows.codes) rows.codes rows.rest
+  pub in_tuples : (i : ℕ) → i < length rows.codes → code_of rows.codes i < rows.tuples
+
 -- what is kept of rows: their runs, and how many have each code, and which is the first
 pub record AreKept (rows : RowsOf) (kept : RunList) (counts : Occurrences) : Type 0 where
   pub few : length rows.codes ≤ most_cells

@@ -1,18 +1,21 @@
 //! Rows that are kept as runs.
 
-ghost use Rattle.std.specs.Prelude.{◌≡◌, ◌≤◌, ◌<◌, ◌+◌, ◌-◌, ℕ, length, map, take, drop, IfOk};
+ghost use Rattle.std.specs.Prelude.{◌≡◌, ◌≤◌, ◌<◌, ◌+◌, ◌-◌, ℕ, List, length, map, take, drop, IfOk};
 ghost use Rattle.cla_spec.specs.Matrix.{most_cells};
 ghost use Rattle.cla_num.specs.Bits.{IsSupported};
 ghost use Rattle.cla_layout.specs.Groups.{at, code_of, occurrences_of, first_row_of, gathered, Scattered};
 ghost use Rattle.cla_layout.specs.Listed.{run_begins};
 ghost use Rattle.cla_rows.specs.Grouped.{AreGrouped};
+ghost use Rattle.cla_runs.specs.KeyedRuns.{AreKeyedRuns};
+ghost use Rattle.cla_runs.specs.Rows.{rows_in_runs, AreRowsInRuns};
 ghost use Rattle.cla_rows.specs.CodeRuns.{IsRun, IsListedRun, listed_begins, listed_keys, AreRunsByKey};
 
-use crate::run_list::{RunList, list_runs};
+use crate::counts::counted_by_run;
+use crate::run_list::{KeyedRun, RunList, in_order, list_in_order, list_runs};
 use crate::walks::{gather_between, give_code, join_between, part_of};
 use cla_group::Join;
 use cla_num::{Memory, Number, Wide};
-use cla_rows::{Grouped, Occurrences, counted, group_places};
+use cla_rows::{Grouped, Occurrences, group_places};
 use std::alloc::Global;
 use std::marker::Model;
 
@@ -50,7 +53,7 @@ impl Model for RunRows {
 }
 
 impl RunRows {
-    /// The runs of these codes, which are below `tuples`. It costs three passes over the rows.
+    /// The runs of these codes, which are below `tuples`. It costs two passes over the rows.
     pub fn from_codes(
         alloc: Global,
         codes: &[u32],
@@ -62,7 +65,34 @@ impl RunRows {
         ensures { IfOk result (λ r. r ≡ record { codes = codes.now; tuples = tuples; rest = rest }) }
     {
         let runs = list_runs(alloc, codes, rest)?;
-        let occurrences = counted(alloc, codes, tuples)?;
+        RunRows::of_list(alloc, tuples, rest, runs)
+    }
+
+    /// The rows that have these maximal runs, in any order: each run of a code but the rest once, and none of the
+    /// rest, which has the rows between them. The codes are below `tuples`. It sorts the runs, and then costs two
+    /// passes over them; it allocates for runs and codes, and nothing for the rows.
+    pub fn from_runs(
+        alloc: Global,
+        rows: u32,
+        tuples: u32,
+        rest: u32,
+        runs: Vec<KeyedRun>,
+    ) -> Result<RunRows, Memory>
+        requires runs { (codes : List ℕ) × AreKeyedRuns codes rows tuples rest runs.items }
+        ensures { (codes : List ℕ) → AreKeyedRuns codes rows tuples rest runs.items →
+            IfOk result (λ r. r ≡ record { codes = codes; tuples = tuples; rest = rest }) }
+    {
+        let runs = in_order(runs);
+        let list = list_in_order(alloc, rows, rest, &runs)?;
+        RunRows::of_list(alloc, tuples, rest, list)
+    }
+
+    // The rows that have these runs, which are counted in one pass over the runs.
+    fn of_list(alloc: Global, tuples: u32, rest: u32, runs: RunList) -> Result<RunRows, Memory>
+        requires { AreRowsInRuns (rows_in_runs tuples rest runs) runs }
+        ensures { IfOk result (λ r. r ≡ rows_in_runs tuples rest runs) }
+    {
+        let occurrences = counted_by_run(alloc, &runs, tuples, rest)?;
         Ok(RunRows {
             tuples,
             rest,
@@ -169,6 +199,13 @@ impl RunRows {
         Ok(codes)
     }
 
+    /// How many maximal runs all codes but the rest have.
+    pub fn count(&self) -> u32
+        ensures { result ≡ length (listed_begins self.now.codes self.now.rest) }
+    {
+        self.runs.len() as u32
+    }
+
     /// How many maximal runs code k has, by a pass over all runs.
     pub fn run_count(&self, k: u32) -> u32
         requires { k ≡ self.now.rest → ⊥ }
@@ -199,6 +236,22 @@ impl RunRows {
         ensures runs { IfOk result (λ _. AreRunsByKey self.now.codes self.now.rest) }
     {
         Ok(group_places(alloc, &self.runs.keys, self.tuples)?)
+    }
+
+    /// The runs of all codes but the rest, in the order of rows: [`RunRows::from_runs`] makes the same rows of them.
+    pub fn keyed_runs(&self, alloc: Global) -> Result<Vec<KeyedRun>, Memory>
+        ensures { let rows = self.now in IfOk result
+            (λ runs. AreKeyedRuns rows.codes (length rows.codes) rows.tuples rows.rest runs.items) }
+    {
+        let mut runs = Vec::with_capacity(alloc, self.runs.len())?;
+        for n in 0..self.runs.len() {
+            runs.push(KeyedRun {
+                begin: self.runs.begin(n),
+                end: self.runs.end_before(n + 1),
+                key: self.runs.key(n),
+            })?;
+        }
+        Ok(runs)
     }
 
     /// The first row of the run with this number.

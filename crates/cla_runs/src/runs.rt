@@ -1,14 +1,16 @@
 //! Groups that are kept as runs.
 
-ghost use Rattle.std.specs.Prelude.{◌≡◌, ◌*◌, ◌-◌, ◌/◌, ◌<◌, ◌≤◌, false, length, map, IfOk, IfSome};
+ghost use Rattle.std.specs.Prelude.{◌≡◌, ◌*◌, ◌-◌, ◌/◌, ◌<◌, ◌≤◌, ℕ, List, false, length, map, IfOk, IfSome};
 ghost use Rattle.cla_layout.specs.Groups.{IsGroup};
-ghost use Rattle.cla_layout.specs.Listed.{rest_of, is_rest, run_begins};
+ghost use Rattle.cla_layout.specs.Listed.{rest_of, numbered_rest, is_rest, run_begins};
 ghost use Rattle.cla_layout.specs.Groups.{AreNumbered};
 ghost use Rattle.cla_group.specs.Rows.{AreRowsFrom, ArePlaces, projected};
 ghost use Rattle.cla_layout.specs.Tuples.{AreCodes, tuples_of};
 ghost use Rattle.cla_rows.specs.CodeRuns.{IsRun};
+ghost use Rattle.cla_runs.specs.KeyedRuns.{AreKeyedRuns};
 ghost use Rattle.cla_runs.specs.Rows.{rest_in};
 
+use crate::run_list::KeyedRun;
 use crate::run_rows::{Run, RunRows};
 use cla_group::{Dictionary, Greatest, Group, KeptRows, Least, Owned, Plus, keep_rows};
 use cla_num::{Memory, Number, Wide};
@@ -32,7 +34,7 @@ pub struct Runs<N: Number> {
 impl<N: Number> Runs<N> {
     /// The group of rows with these codes. Its tuples stand one after the other, with `width` values
     /// each, and each of them is the code of some row. The rest is that of [`Dictionary::rest`]. It
-    /// costs three passes over the rows.
+    /// costs two passes over the rows.
     pub fn from_codes(
         alloc: Global,
         width: u32,
@@ -50,6 +52,32 @@ impl<N: Number> Runs<N> {
     {
         let dictionary = Dictionary::of_values(width, values);
         Ok(Runs::of_rows(alloc, codes, dictionary)?)
+    }
+
+    /// The group of rows that have these maximal runs, in any order: each run of a tuple but the rest once. The
+    /// rest is that of [`Dictionary::rest_number`], and has the rows between them. It sorts the runs, and then costs
+    /// two passes over them; it allocates for runs and tuples, and nothing for the rows.
+    pub fn from_runs(
+        alloc: Global,
+        dictionary: Dictionary<N>,
+        rows: u32,
+        runs: Vec<KeyedRun>,
+        rest: u32,
+    ) -> Result<Runs<N>, Memory>
+        requires runs { (codes : List ℕ) × IsGroup N.BITS dictionary.width codes dictionary.tuples
+            × (numbered_rest (length dictionary.tuples) rest ≡ rest_of codes dictionary.tuples)
+            × AreKeyedRuns codes rows (length dictionary.tuples) rest runs.items }
+        ensures columns { IfOk result (λ g. ⟦<Runs<N> as Group<N>>⟧.columns g ≡ dictionary.width) }
+        ensures codes { (codes : List ℕ) → AreKeyedRuns codes rows (length dictionary.tuples) rest runs.items →
+            IfOk result (λ g. ⟦<Runs<N> as Group<N>>⟧.codes g ≡ codes) }
+        ensures dictionary { IfOk result (λ g. ⟦<Runs<N> as Group<N>>⟧.dictionary g ≡ dictionary.tuples) }
+        ensures rest { IfOk result (λ g. rest_in g.rows.value
+            ≡ rest_of (⟦<Runs<N> as Group<N>>⟧.codes g) (⟦<Runs<N> as Group<N>>⟧.dictionary g)) }
+    {
+        let tuples = dictionary.len();
+        let kept = RunRows::from_runs(alloc, rows, tuples, rest, runs)?;
+        let rows = Rc::new(alloc, kept)?;
+        Ok(Runs { dictionary, rows })
     }
 
     // The group of these codes of a dictionary.
