@@ -1,4 +1,5 @@
 pub mod PartSums
+pub mod Slices
 pub mod Extremes
 pub mod Placed
 pub mod Spread

@@ -77,18 +77,18 @@ made_here Done Left c part old now p v place is before = record {
   kept = λ j none. set_elsewhere part now c p j v place none ∙ before.kept j none;
 }
 
--- a tuple is added up before place c
-abbrev pub IsAddedBefore : ℕ → ℕ → LayoutPart → List ℤ → List ℤ → Type 0
-IsAddedBefore k c part old new =
-    AreMadeBefore (λ d v. v ≡ sum_to (λ l. occurring part.codes part.tuples l d) (k + 1))
-    (λ d v. v ≡ sum_to (λ l. occurring part.codes part.tuples l d) k) c part old new
+-- the tuples up to `end` are added up before place c, and those up to `from` in the others
+abbrev pub AreAddedBefore : ℕ → ℕ → ℕ → LayoutPart → List ℤ → List ℤ → Type 0
+AreAddedBefore from end c part old new =
+    AreMadeBefore (λ d v. v ≡ sum_to (λ l. occurring part.codes part.tuples l d) end)
+    (λ d v. v ≡ sum_to (λ l. occurring part.codes part.tuples l d) from) c part old new
 
-pub added_here : (k c : ℕ) (part : LayoutPart) (old now : List ℤ) (p : ℕ) (v : ℤ) → IsPlaceOf part now c p
-    → v ≡ sum_to (λ l. occurring part.codes part.tuples l c) (k + 1)
-    → IsAddedBefore k c part old now → IsAddedBefore k (c + 1) part old (set now p v)
-added_here k c part old now p v place is before =
-    made_here (λ d z. z ≡ sum_to (λ l. occurring part.codes part.tuples l d) (k + 1))
-    (λ d z. z ≡ sum_to (λ l. occurring part.codes part.tuples l d) k) c part old now p v place is before
+pub added_here : (from end c : ℕ) (part : LayoutPart) (old now : List ℤ) (p : ℕ) (v : ℤ) → IsPlaceOf part now c p
+    → v ≡ sum_to (λ l. occurring part.codes part.tuples l c) end
+    → AreAddedBefore from end c part old now → AreAddedBefore from end (c + 1) part old (set now p v)
+added_here from end c part old now p v place is before =
+    made_here (λ d z. z ≡ sum_to (λ l. occurring part.codes part.tuples l d) end)
+    (λ d z. z ≡ sum_to (λ l. occurring part.codes part.tuples l d) from) c part old now p v place is before
 
 -- what is made of a line depends on its values alone
 abbrev pub Respects : ((ℕ → ℤ) → ℕ → ℤ → Type 0) → Type 0

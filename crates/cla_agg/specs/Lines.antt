@@ -60,9 +60,9 @@ abbrev pub AreAddedTo : ℕ → LayoutPart → List ℤ → Type 0
 AreAddedTo k part into = (c : ℕ) → c < length part.columns →
     at into (column_at part.columns c) ≡ sum_to (λ l. occurring part.codes part.tuples l c) k
 
--- and one more
-pub record IsTupleAdded (k : ℕ) (part : LayoutPart) (old new : List ℤ) : Type 0 where
-  pub added : AreAddedTo (k + 1) part new
+-- and others up to this one
+pub record AreTuplesAdded (end : ℕ) (part : LayoutPart) (old new : List ℤ) : Type 0 where
+  pub added : AreAddedTo end part new
   pub kept : (j : ℕ) → has_column part j ≡ false → at new j ≡ at old j
 
 -- of each column of a part a value is made and stands at the column's place; other places keep what they held

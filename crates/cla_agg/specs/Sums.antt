@@ -11,3 +11,7 @@ cells_sum rows part = sum_of_entries rows (length part.columns) (cell_of part.co
 -- the counts with which a group may begin
 abbrev pub group_bound : ℕ
 group_bound = 2 ^ 127 + 2 ^ 126 + 2 ^ 26
+
+-- and a column of some of its tuples
+abbrev pub column_bound : ℕ
+column_bound = 2 ^ 127 + 2 ^ 126 + 2 ^ 28

@@ -1,6 +1,6 @@
 //! The sum of all entries.
 
-ghost use Rattle.std.specs.Prelude.{◌≡◌, ◌<◌, ◌+◌, ◌*◌, length};
+ghost use Rattle.std.specs.Prelude.{◌≡◌, ◌<◌, ◌≤◌, ◌+◌, ◌*◌, length};
 ghost use Rattle.cla_spec.specs.Numbers.{sum_to};
 ghost use Rattle.cla_spec.specs.Matrix.{sum_of_entries};
 ghost use Rattle.cla_num.specs.Bits.{IsSupported};
@@ -15,6 +15,7 @@ ghost use Rattle.cla_layout.specs.Values.{values_of};
 ghost use Rattle.cla_meaning.specs.Counts.{HasMults};
 ghost use Rattle.cla_agg.specs.Sums.{group_bound};
 
+use crate::columns::{NARROW, NEAR_TUPLES, sum_in_column};
 use cla_coded::Table;
 use cla_group::Group;
 use cla_num::{Meter, Number, OpFault, What, Wide};
@@ -63,8 +64,58 @@ fn base_sum<N: Number, G: Group<N>>(m: &Table<N, G>, meter: &mut Meter) -> Wide
     sum
 }
 
-// The sum of a group's cells, tuple by tuple.
+// The sum of a group's cells.
 fn group_sum<N: Number, G: Group<N>>(g: &G, meter: &mut Meter) -> Wide
+    requires bits { IsSupported N.BITS }
+    requires room { AreBelow group_bound meter.old }
+    ensures sum { result ≡ sum_of_entries (length (G.codes g.now)) (G.columns g.now)
+        (cell_of (G.codes g.now) (G.dictionary g.now)) }
+    ensures counts { HasMults (length (G.dictionary g.now) * G.columns g.now) meter.old meter.new }
+{
+    if g.width() < NARROW {
+        sum_by_columns(g, meter)
+    } else {
+        sum_by_tuples(g, meter)
+    }
+}
+
+// The sum of a group's cells, some tuples at a time, and of these one column after the other.
+fn sum_by_columns<N: Number, G: Group<N>>(g: &G, meter: &mut Meter) -> Wide
+    requires bits { IsSupported N.BITS }
+    requires room { AreBelow group_bound meter.old }
+    ensures sum { result ≡ sum_of_entries (length (G.codes g.now)) (G.columns g.now)
+        (cell_of (G.codes g.now) (G.dictionary g.now)) }
+    ensures counts { HasMults (length (G.dictionary g.now) * G.columns g.now) meter.old meter.new }
+{
+    let tuples = g.tuples();
+    let mut sum = Wide::zero();
+    let mut from = 0;
+    while from < tuples {
+        let count = NEAR_TUPLES.min(tuples - from);
+        sum = sum.plus(sum_of_tuples(g, from, count, meter));
+        from += count;
+    }
+    sum
+}
+
+// The sum of the values of some tuples, each as often as its tuple occurs.
+fn sum_of_tuples<N: Number, G: Group<N>>(g: &G, from: u32, count: u32, meter: &mut Meter) -> Wide
+    requires bits { IsSupported N.BITS }
+    requires room { AreBelow step_bound meter.old }
+    requires tuples { from + count ≤ length (G.dictionary g.now) }
+    ensures sum { let counted = occurring (G.codes g.now) (G.dictionary g.now) in
+        result ≡ sum_to (λ n. sum_to (counted (from + n)) (G.columns g.now)) count }
+    ensures counts { HasMults (G.columns g.now * count) meter.old meter.new }
+{
+    let mut sum = Wide::zero();
+    for c in 0..g.width() {
+        sum = sum.plus(sum_in_column(g, c, from, count, meter));
+    }
+    sum
+}
+
+// The sum of a group's cells, tuple by tuple.
+fn sum_by_tuples<N: Number, G: Group<N>>(g: &G, meter: &mut Meter) -> Wide
     requires bits { IsSupported N.BITS }
     requires room { AreBelow group_bound meter.old }
     ensures sum { result ≡ sum_of_entries (length (G.codes g.now)) (G.columns g.now)

@@ -54,6 +54,7 @@ impl<'a, N: Number> Mapping<N> for Chain<'a, N> {
 
     ghost covers = { λ c j. Unit {0} };
 
+    #[inline(always)]
     fn run(&self, _j: u32, x: N, meter: &mut Meter) -> Ran<N> {
         map_value(x, self.steps, meter)
     }
@@ -75,6 +76,7 @@ impl<'a, N: Number> Mapping<N> for RowOp<'a, N> {
 
     ghost covers = { λ r j. j < length r.row.now };
 
+    #[inline(always)]
     fn run(&self, j: u32, x: N, meter: &mut Meter) -> Ran<N> {
         let step = Step::Right {
             op: self.op,

@@ -43,6 +43,7 @@ impl Misfit {
 }
 
 /// The one with the lesser step, and of equal steps with the lesser place.
+#[inline(always)]
 pub(crate) fn lesser(first: Option<Misfit>, other: Option<Misfit>) -> Option<Misfit>
     ensures { result ≡ lesser_of first other }
 {
@@ -60,6 +61,7 @@ pub(crate) fn lesser(first: Option<Misfit>, other: Option<Misfit>) -> Option<Mis
 }
 
 /// A value that stopped, at its place.
+#[inline(always)]
 pub(crate) fn placed(stop: Option<Stop>, place: u32) -> Option<Misfit>
     ensures { result ≡ misfit_of stop place }
 {
@@ -81,6 +83,7 @@ pub(crate) struct Ran<N> {
 }
 
 /// One step: the next number, or what is wrong with it.
+#[inline(always)]
 pub(crate) fn next_value<N: Number>(step: &Step<N>, x: N, meter: &mut Meter) -> Result<N, What>
     requires bits { IsSupported N.BITS }
     requires room { AreBelow value_room meter.old }
@@ -97,6 +100,7 @@ pub(crate) fn next_value<N: Number>(step: &Step<N>, x: N, meter: &mut Meter) -> 
 }
 
 /// All steps on one value.
+#[inline(always)]
 pub(crate) fn map_value<N: Number>(x: N, steps: &[Step<N>], meter: &mut Meter) -> Ran<N>
     requires bits { IsSupported N.BITS }
     requires few { length steps.now < 2 ^ 32 }

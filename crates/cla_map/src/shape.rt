@@ -18,6 +18,7 @@ pub struct Shape {
 
 impl Shape {
     /// The place, among the table's cells row by row, of the entry in row i and column j of the base.
+    #[inline(always)]
     pub(crate) fn place(self, i: u32, j: u32) -> u32
         requires row { i < self.rows }
         requires col { j < self.cols }

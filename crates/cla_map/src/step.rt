@@ -17,6 +17,7 @@ pub enum Step<N> {
 
 impl<N: Number> Step<N> {
     // The exact value. It counts as one map evaluation.
+    #[inline(always)]
     pub(crate) fn evaluate(&self, x: N, meter: &mut Meter) -> Result<Wide, ZeroDivisor>
         requires { AreBelow operation_bound meter.old }
         ensures value { let cell = step_cell N.value self.now (N.value x) in

@@ -4,7 +4,7 @@ use Rattle.cla_spec.specs.Numbers.{sum_to}
 use Rattle.cla_layout.proofs.Cells.{occurring, values_few}
 use Rattle.cla_coded.specs.Parts.{part_of}
 use Rattle.cla_agg.proofs.Placed.{column_by_tuples}
-use Rattle.cla_agg.proofs.columns.add_part.Goals as goal
+use Rattle.cla_agg.proofs.columns.add_by_tuples.Goals as goal
 
 pub add_tuple-requires-clause-room : goal.add_tuple-requires-clause-room
 add_tuple-requires-clause-room g c =

@@ -3,7 +3,7 @@ use Rattle.cla_layout.specs.Groups.{at}
 use Rattle.cla_layout.specs.Layouts.{has_column}
 use Rattle.cla_coded.specs.Parts.{part_of}
 use Rattle.cla_agg.specs.Lines.{AreAddedTo}
-use Rattle.cla_agg.proofs.columns.add_part.Given as goal
+use Rattle.cla_agg.proofs.columns.add_by_tuples.Given as goal
 
 -- the tuples before k
 abbrev pub invariant-loop-k : goal.invariant-loop-k

@@ -3,7 +3,7 @@ use Rattle.std.proofs.Math.Nat.{mul-le-mul_right}
 use Rattle.cla_spec.specs.Numbers.{sum_to}
 use Rattle.cla_num.proofs.Sizes.{fits_by_size}
 use Rattle.cla_layout.proofs.Cells.{occurring, sum_by_tuples, total_size, values_few}
-use Rattle.cla_agg.proofs.total.group_sum.Goals as goal
+use Rattle.cla_agg.proofs.total.sum_by_tuples.Goals as goal
 
 pub tuple_sum-requires-clause-room : goal.tuple_sum-requires-clause-room
 tuple_sum-requires-clause-room g c =

@@ -1,7 +1,7 @@
 use Rattle.std.proofs.Common.{◌≡◌, ◌+◌, ◌*◌}
 use Rattle.cla_spec.specs.Numbers.{sum_to}
 use Rattle.cla_layout.proofs.Cells.{occurring}
-use Rattle.cla_agg.proofs.total.group_sum.Given as goal
+use Rattle.cla_agg.proofs.total.sum_by_tuples.Given as goal
 
 -- the sum of the tuples before k, each counted
 abbrev pub invariant-loop-k : goal.invariant-loop-k

@@ -1,0 +1,19 @@
+use Rattle.std.proofs.Common.{◌≡◌, ◌≤◌, ℕ, false, ◌+◌, ◌-◌, ◌*◌, length}
+use Rattle.cla_layout.specs.Groups.{at}
+use Rattle.cla_layout.specs.Layouts.{has_column}
+use Rattle.cla_coded.specs.Parts.{part_of}
+use Rattle.cla_agg.specs.Lines.{AreAddedTo}
+use Rattle.cla_agg.proofs.columns.add_by_columns.Given as goal
+
+-- the tuples before this one
+abbrev pub invariant-loop-from : goal.invariant-loop-from
+invariant-loop-from g l = record {
+  sums : AreAddedTo l.from (part_of g.G.Group.codes g.G.Group.dictionary l.part) l.into;
+  kept : (j : ℕ) → has_column (part_of g.G.Group.codes g.G.Group.dictionary l.part) j ≡ false →
+      at l.into j ≡ at l.fn.into j;
+  counts : l.meter ≡ record l.fn.meter { mults = l.fn.meter.mults + l.from * length l.part.columns.items };
+  within : l.from ≤ l.tuples;
+}
+
+abbrev pub decreases-loop-from : goal.decreases-loop-from
+decreases-loop-from g l = l.tuples - l.from
