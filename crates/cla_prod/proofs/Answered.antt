@@ -1,6 +1,6 @@
 -- From lines to the entries of products.
-use Rattle.std.proofs.Common.{◌≡◌, ℕ, ℤ, pos, ◌+◌, ◌*◌, ◌<◌, ◌≤◌, ◌*ℤ◌, min, max, List, Bool, true, false, not, length, map}
-use Rattle.std.proofs.Common.{Result, Ok, Err, cond, Some, None, refl, ap, subst, sym, ◌∙◌, arith}
+use Rattle.std.proofs.Common.{◌≡◌, ℕ, ℤ, pos, ◌+◌, ◌*◌, ◌<◌, ◌≤◌, ◌*ℤ◌, min, max, List, Bool, true, false, not, length}
+use Rattle.std.proofs.Common.{map, Result, Ok, Err, cond, Some, None, refl, ap, subst, sym, ◌∙◌, arith}
 use Rattle.std.proofs.Math.Nat.{mul_comm}
 use Rattle.std.proofs.Math.IntN.{*ℤ_comm}
 use Rattle.cla_spec.specs.Numbers.{sum_to}

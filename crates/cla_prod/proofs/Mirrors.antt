@@ -7,7 +7,8 @@ use Rattle.std.proofs.lemmas.List.Sums.{sum_by-cons}
 use Rattle.cla_spec.specs.Numbers.{sum_to}
 use Rattle.cla_spec.proofs.Sums.{sum_to-same}
 use Rattle.cla_layout.specs.Groups.{code_of}
-use Rattle.cla_layout.specs.Layouts.{LayoutPart, layout_with, part_at, column_at, count_of, all_columns, IsPartition, IsWhole}
+use Rattle.cla_layout.specs.Layouts.{LayoutPart, layout_with, part_at, column_at, count_of, all_columns}
+use Rattle.cla_layout.specs.Layouts.{IsPartition, IsWhole}
 use Rattle.cla_layout.proofs.PartSums.{listed_within}
 use Rattle.cla_layout.proofs.Wholes.{own_column, own_column_within}
 use Rattle.cla_prod.specs.Answers.{column_numbers, self_values_of}

@@ -36,8 +36,8 @@ listed_values order parts columns = sum_by (column_values order parts) columns
 abbrev pub read_values : Order → List LayoutPart → List LayoutPart → ℕ
 read_values order parts base = sum_by (λ part. listed_values order parts part.columns) base
 
--- the columns of a base are these lines, with a code for each row, and so many products: the parts that are multiplied fit
--- them, and there are few enough
+-- the columns of a base are these lines, with a code for each row, and so many products: the parts that are multiplied
+-- fit them, and there are few enough
 pub record AreColumns (bits : ℕ) (base parts : List LayoutPart) (lines : Lines) (coded products : ℕ) : Type 0 where
   pub columns : IsWhole bits (layout_with lines.inner lines.count base)
   pub whole : IsWhole bits (base_for lines.turned lines.outer lines.inner parts)

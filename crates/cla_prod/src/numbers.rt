@@ -1,6 +1,6 @@
 //! From exact cells to numbers.
 
-ghost use Rattle.std.specs.Prelude.{◌≡◌, ◌<◌, ◌+◌, ◌*◌, ◌^◌, length, map, Some, None, MatchResult};
+ghost use Rattle.std.specs.Prelude.{◌≡◌, ◌<◌, ◌+◌, ◌*◌, ◌^◌, ℕ, true, length, map, Some, None, MatchResult};
 ghost use Rattle.cla_spec.specs.Matrix.{IsShaped, row_by_row};
 ghost use Rattle.cla_num.specs.Bits.{IsSupported};
 ghost use Rattle.cla_num.specs.Fault.{exactly, fault_of};
@@ -50,8 +50,52 @@ pub(crate) fn numbers_of<N: Number>(
         MatchResult result (λ _. (map N.value numbers.new ≡ row_by_row rows cols exact) × (first ≡ None))
         (λ fault. first ≡ Some fault) }
 {
+    if is_row_by_row(order, cols) {
+        return numbers_row_by_row(cells, rows, cols, numbers);
+    }
     for i in 0..rows {
         numbers_of_row(cells, order, rows, cols, i, numbers)?;
+    }
+    Ok(())
+}
+
+// Whether cells in this order stand row by row. Those of one column do so in either order.
+fn is_row_by_row(order: Order, cols: u32) -> bool
+    ensures { result ≡ true → (rows i j : ℕ) → j < cols → place_in order rows cols i j ≡ i * cols + j }
+{
+    match order {
+        Order::Rows => true,
+        Order::Columns => cols == 1,
+        Order::Mirrored => false,
+    }
+}
+
+// The numbers of cells that stand row by row, in one pass over them, or the fault of the first that isn't in range.
+fn numbers_row_by_row<N: Number>(
+    cells: &[Wide],
+    rows: u32,
+    cols: u32,
+    numbers: &mut [N],
+) -> Result<(), OpFault>
+    requires bits { IsSupported N.BITS }
+    requires shape { IsShaped rows cols cells.now }
+    requires numbers { length numbers.old ≡ rows * cols }
+    ensures { let exact = cell_at Order.Rows rows cols cells.now in
+        let first = fault_of N.BITS rows cols (exactly exact) in
+        MatchResult result (λ _. (map N.value numbers.new ≡ row_by_row rows cols exact) × (first ≡ None))
+        (λ fault. first ≡ Some fault) }
+{
+    for p in 0..cells.len() {
+        let exact = cells[p];
+        let Some(number) = N::narrow(exact) else {
+            return Err(OpFault {
+                op: 0,
+                row: p as u32 / cols + 1,
+                col: p as u32 % cols + 1,
+                what: What::Range { value: exact },
+            });
+        };
+        numbers[p] = number;
     }
     Ok(())
 }

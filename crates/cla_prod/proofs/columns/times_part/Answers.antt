@@ -134,7 +134,8 @@ loop-c-preserved g c =
     ≡ c.args.meter.now.mults + listed_values lines.order parts (take (c.loop-c.c + 1) part.columns) =
     (let next = listed_more lines.order parts part.columns c.loop-c.c there in
     let same : column_values lines.order parts j
-    ≡ column_values lines.order parts (column_at part.columns c.loop-c.c) = ap (column_values lines.order parts) column in
+    ≡ column_values lines.order parts (column_at part.columns c.loop-c.c) =
+    ap (column_values lines.order parts) column in
     omega (arith, next, same)) in
     record {
       products = place_step lines n c.loop-c.c j item part.columns c.args.exact.now c.loop-c.exact new

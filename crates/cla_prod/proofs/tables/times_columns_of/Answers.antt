@@ -52,7 +52,8 @@ product_by_columns-requires-clause-columns g c =
     record {
       columns = whole_at bits b.rows b.cols c.rows.result c.cols.result (base b.parts) (base c.parts-read.result.now)
           c.parts-read.ensures.whole inner count (ap base c.parts-read.ensures.parts);
-      whole = subst (λ (f : Bool). IsWhole bits (base_for f c.rows-2.result c.rows.result (parts c.parts-parts.result.now)))
+      whole = subst
+          (λ (f : Bool). IsWhole bits (base_for f c.rows-2.result c.rows.result (parts c.parts-parts.result.now)))
           (sym c.flipped-2.ensures)
           (subst (λ (ps : List LayoutPart). IsWhole bits (base_for a.flipped c.rows-2.result c.rows.result ps))
           (sym (ap parts c.parts-parts.ensures.parts)) whole);
@@ -81,9 +82,9 @@ returns-clause-product g c =
     (product_entry inner x y) c.product_by_columns.result c.rows-2.ensures c.cols.ensures
     (omega (arith, count, c.parts-read.ensures.whole.a_col))
     (λ i j row col.
-    column_named c.flipped-2.result a.flipped (parts c.parts-parts.result.now) (parts a.parts) (base c.parts-read.result.now)
-    (base b.parts) c.rows.result inner j i c.flipped-2.ensures (ap parts c.parts-parts.ensures.parts)
-    (ap base c.parts-read.ensures.parts) (c.rows.ensures ∙ sym c.requires.inner)
+    column_named c.flipped-2.result a.flipped (parts c.parts-parts.result.now) (parts a.parts)
+    (base c.parts-read.result.now) (base b.parts) c.rows.result inner j i c.flipped-2.ensures
+    (ap parts c.parts-parts.ensures.parts) (ap base c.parts-read.ensures.parts) (c.rows.ensures ∙ sym c.requires.inner)
     ∙ columns_right a.flipped (parts a.parts) (base b.parts) y inner i j (λ k. plain_entry b.flipped layout k j plain))
     c.product_by_columns.ensures.product
 
