@@ -1,15 +1,16 @@
 -- Marks as bits of words.
-use Rattle.std.proofs.Common.{◌≡◌, ℕ, ◌*◌, ◌/◌, ◌%◌, ◌<◌, ◌≤◌, Bool, true, false, ◌==◌, List, length, set, get_or, replicate, sym, ap, ◌∙◌, arith, inl, inr}
+use Rattle.std.proofs.Common.{◌≡◌, ℕ, ◌+◌, ◌-◌, ◌*◌, ◌/◌, ◌%◌, ◌^◌, ◌<◌, ◌≤◌, min, max, Bool, true, false, ◌==◌, List, length, set, get_or, replicate, sym, ap, ◌∙◌, arith, inl, inr}
+use Rattle.std.specs.Prelude.{◌||◌, ◌&&◌, nat_le, nat_lt}
 use Rattle.std.specs.Int.{bit_at}
-use Rattle.std.proofs.lemmas.Bool.{cases_eq}
+use Rattle.std.proofs.lemmas.Bool.{cases_eq, cases_lt, eq-eqb, ne_eqb, lt-ltb, le-ltb, le-leb, lt-leb, and_from, and_left, and_right}
 use Rattle.std.proofs.lemmas.Grind.{get_or-set_at}
 use Rattle.std.proofs.lemmas.List.{ext_get_or, length-set, length-replicate, get_or-set_other, get_or-replicate}
 use Rattle.std.proofs.lemmas.List.FromFn.{length-map-range_with_len, get_or-map-range_with_len}
-use Rattle.std.proofs.lemmas.Nat.Bits.{bit_at-zero}
+use Rattle.std.proofs.lemmas.Nat.Bits.{bit_at-zero, bit_at_mask_inside, bit_at_mask_below, bit_at_ones, bit_at_ones_above}
 use Rattle.cla_pack_reader.specs.Bits.{mark_in, marks_in}
 
 -- the mark of a word's bit
-abbrev marked : ℕ → ℕ → Bool
+abbrev pub marked : ℕ → ℕ → Bool
 marked word k = bit_at word k == 1
 
 pub marks_count : (words : List ℕ) (n : ℕ) → length (marks_in words n) ≡ n
@@ -63,3 +64,49 @@ one_marked words n c word room lt is others =
                 ap (λ (w : ℕ). marked w (i % 64)) (get_or-set_other words (c / 64) (i / 64) word 0 far)
           ] ∙ sym kept
     ])
+
+-- ---- several bits
+
+none_meets : (b : ℕ) → (min 0 b == 1) ≡ false
+none_meets b = let none : min 0 b ≡ 0 = omega arith in ap (λ (m : ℕ). m == 1) none
+
+-- bits from `low` on and bits below `high`
+pub bits_meet : (begin end place low high k : ℕ) → low ≡ begin - place * 64 → high ≡ min (end - place * 64) 64
+    → begin / 64 ≤ place → k < 64
+    → (min (bit_at (2 ^ 64 - 2 ^ low) k) (bit_at (2 ^ high - 1) k) == 1)
+    ≡ (nat_le begin (64 * place + k) && nat_lt (64 * place + k) end)
+bits_meet begin end place low high k low_is high_is before lt = elim (cases_lt k low) [
+  | inl below ↦ ap (λ (b : ℕ). min b (bit_at (2 ^ high - 1) k) == 1) (bit_at_mask_below low 64 k below)
+      ∙ none_meets (bit_at (2 ^ high - 1) k)
+      ∙ sym (and_left (nat_le begin (64 * place + k)) (nat_lt (64 * place + k) end)
+      (lt-leb begin (64 * place + k) (omega (arith, below, low_is))))
+  | inr from ↦ elim (cases_lt k high) [
+    | inl inside ↦
+        (λ i. (min (bit_at_mask_inside low 64 k from lt i) (bit_at_ones high k inside i) == 1))
+        ∙ sym (and_from (nat_le begin (64 * place + k)) (nat_lt (64 * place + k) end)
+        (le-leb begin (64 * place + k) (omega (arith, from, low_is)))
+        (lt-ltb (64 * place + k) end (omega (arith, inside, high_is))))
+    | inr above ↦
+        (λ i. (min (bit_at_mask_inside low 64 k from lt i) (bit_at_ones_above high k above i) == 1))
+        ∙ sym (and_right (nat_le begin (64 * place + k)) (nat_lt (64 * place + k) end)
+        (le-ltb (64 * place + k) end (omega (arith, above, high_is, lt))))
+  ]
+]
+
+pub either_bit : (a b : ℕ) → a < 2 → b < 2 → (max a b == 1) ≡ (a == 1 || b == 1)
+either_bit a b la lb = elim (cases_eq a 1) [
+  | inl one ↦ eq-eqb (max a b) 1 (omega (arith, one, lb)) ∙ sym (ap (λ (x : Bool). x || b == 1) (eq-eqb a 1 one))
+  | inr none ↦ ap (λ (m : ℕ). m == 1) (let b_is : max a b ≡ b = omega (arith, none, la) in b_is) ∙ sym (ap (λ (x : Bool). x || b == 1) (ne_eqb a 1 none))
+]
+
+-- ---- marks of items by words
+
+-- an item is bit k of word w
+pub mark_of : (words : List ℕ) (w k : ℕ) → k < 64 → mark_in words (64 * w + k) ≡ marked (get_or words w 0) k
+mark_of words w k lt =
+    let word : (64 * w + k) / 64 ≡ w = omega (arith, lt) in
+    let bit : (64 * w + k) % 64 ≡ k = omega (arith, lt) in
+    λ i. marked (get_or words (word i) 0) (bit i)
+
+pub item_is : (i : ℕ) → i ≡ 64 * (i / 64) + i % 64
+item_is i = omega arith

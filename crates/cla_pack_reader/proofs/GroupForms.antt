@@ -1,6 +1,6 @@
 -- What is read at a place is good, whichever bytes stand behind it.
-use Rattle.std.proofs.Common.{◌≡◌, cond, eqb, Bool, false, ℕ, ℤ, pos, zero, suc, ◌+◌, ◌*◌, ◌/◌, ◌^◌, ◌<◌, ◌≤◌, true, List, [], length, map, min, Ok, refl, sym, ap, subst, ◌∙◌, arith, inl, inr}
-use Rattle.std.specs.Prelude.{nat_lt, nat_le, not, ◌≢◌}
+use Rattle.std.proofs.Common.{◌≡◌, Bool, false, ℕ, ℤ, pos, zero, suc, ◌+◌, ◌*◌, ◌/◌, ◌^◌, ◌<◌, ◌≤◌, true, Option, List, [], length, map, min, Ok, refl, sym, ap, subst, ◌∙◌, arith, inl, inr}
+use Rattle.std.specs.Prelude.{nat_lt, ◌≢◌}
 use Rattle.std.specs.List.{range_with_len}
 use Rattle.std.proofs.lemmas.Bool.{cases_Bool, ltb-false, lt-ltb}
 use Rattle.std.proofs.lemmas.List.FromFn.{length-map-range_with_len}
@@ -10,28 +10,23 @@ use Rattle.cla_io.specs.State.{State}
 use Rattle.cla_layout.specs.declared.kind.Kind.{Kind}
 use Rattle.cla_layout.specs.declared.kind.Kind.TheVariants as kinds
 use Rattle.cla_layout.specs.GroupLaws.{AreCodesOf}
+use Rattle.cla_layout.specs.Listed.{rest_of}
 use Rattle.cla_layout.specs.Tuples.{AreCodes, tuple_at, tuples_of}
 use Rattle.cla_coded.specs.AnyGroups.{FormOf, form_of, HasCodes}
 use Rattle.cla_packed.specs.declared.fault.FieldName.{FieldName}
-use Rattle.cla_packed.specs.declared.fault.FieldName.TheVariants.{Tuples, Rest, Cover}
+use Rattle.cla_packed.specs.declared.fault.FieldName.TheVariants.{Tuples}
 use Rattle.cla_packed.specs.declared.fault.PackFault.TheVariants.{Field}
 use Rattle.cla_packed.specs.Bodies.{Body, IsBody, body_of, fits_tuples, is_new, coded_at}
 use Rattle.cla_packed.specs.Codes.{code_bytes, codes_at}
-use Rattle.cla_packed.specs.Fields.{Place, Read, number_at, field_at, checked_at, list_at, then_at, as_at, tested, ◌>>=◌}
+use Rattle.cla_packed.specs.Fields.{Place, Read, number_at, field_at, then_at, as_at, tested, ◌>>=◌}
 use Rattle.cla_packed.specs.Files.{own_codes, kind_of}
-use Rattle.cla_packed.specs.Rests.{listed_at, body_of_parts, fits_listed, all_named}
 use Rattle.cla_packed.specs.Values.{tuples_at}
 use Rattle.cla_packed_laws.proofs.Coded.{coded_form}
 use Rattle.cla_packed_laws.proofs.Forms.{IsAt, bind_ok}
-use Rattle.cla_packed_laws.proofs.Listed.{listed_form}
-use Rattle.cla_pack_reader.specs.declared.list.Listing.{Listing}
 use Rattle.cla_pack_reader.specs.Bodies.{body_seen}
-use Rattle.cla_pack_reader.specs.declared.list.Listing.TheVariants as listings
-use Rattle.cla_pack_reader.specs.Kept.{kind_listed}
-use Rattle.cla_pack_reader.specs.Listings.{rows_at}
 use Rattle.cla_pack_reader.specs.Places.{places_of, Took}
 use Rattle.cla_pack_reader.proofs.CodedLaws.{with_codes}
-use Rattle.cla_pack_reader.proofs.ZeroLaws.{none_bytes, list_bytes, list_form_of}
+use Rattle.cla_pack_reader.proofs.ZeroLaws.{none_bytes}
 use Rattle.cla_spec.specs.Bytes.{Holds}
 use Rattle.cla_spec.specs.Numbers.{in_range}
 
@@ -76,19 +71,6 @@ coded_here bits group rows width p q body h =
     let first = first_read count behind p all.0.1 all.0.0 all.1 in
     here_field 4 (fits_tuples rows) group Tuples p first.0.1 first.0.0 first.1
 
-listed_here : (listing : Listing) (bits group rows width : ℕ) (p q : Place) (body : Body)
-    → listed_at (rows_at listing rows group) 8 bits group rows width p ≡ Ok (body, q) → p.offset ≤ p.limit
-listed_here listing bits group rows width p q body h =
-    let one = rows_at listing rows group in
-    let count = field_at 4 (λ d. nat_le d rows) group Tuples in
-    let behind = λ (d : ℕ). then_at (field_at 1 (λ rest. nat_lt rest 2) group Rest)
-    (λ rest. then_at (tuples_at 8 bits group width fits_listed d)
-    (λ tuples. then_at (list_at (λ left earlier. one earlier) d [])
-    (λ lists. checked_at (cond (eqb rest 0) (all_named rows lists) (not (all_named rows lists))) group Cover))) in
-    let all = seen_read (body_of_parts rows width) (then_at count behind) p q body h in
-    let first = first_read count behind p all.0.1 all.0.0 all.1 in
-    here_field 4 (λ d. nat_le d rows) group Tuples p first.0.1 first.0.0 first.1
-
 module _ (bits group rows width : ℕ) (t1 t2 : Progress) (s1 s2 : State) (body : Body) (some : 0 < rows)
     (few : rows < 2 ^ 31) (wide : 0 < width) where
   end_of_input : Place
@@ -105,21 +87,6 @@ module _ (bits group rows width : ℕ) (t1 t2 : Progress) (s1 s2 : State) (body 
         near = coded_here bits group rows width p.0 end_of_input body p.2;
       } in
       ((coded_form 8 bits group rows width some (omega (arith, few)) wide).takes p.0 end_of_input body at p.2).0
-
-  -- the body of a group whose tuples are listed with their rows
-  pub listed_good : (listing : Listing) → Holds 8 (pos 0) × (in_range bits (pos 0) ≡ true)
-      → Took (places_of t1 s1) (places_of t2 s2) (listed_at (rows_at listing rows group) 8 bits group rows width) body
-      → IsBody 8 bits rows width body
-  unfolding end_of_input
-  listed_good listing zero_fits took =
-      let p = took false end_of_input (refl, refl, none_bytes) in
-      let at : IsAt p.0 = record {
-        fits = p.1.2;
-        near = listed_here listing bits group rows width p.0 end_of_input body p.2;
-      } in
-      ((listed_form 8 bits rows width some (omega (arith, few)) zero_fits (rows_at listing rows group)
-      (list_bytes listing rows) group wide (list_form_of listing rows group some few)).takes p.0 end_of_input body at
-      p.2).0
 
 -- ---- codes and tuples that groups are made of
 
@@ -178,10 +145,6 @@ kind_rest (suc (suc zero)) h = absurd (omega (arith, h))
 kind_rest (suc (suc (suc zero))) h = absurd (omega (arith, h))
 kind_rest (suc (suc (suc (suc n)))) h = refl
 
-pub not_plain : (listing : Listing) (kind : Kind) → kind ≡ kind_listed listing → kind ≢ kinds.Plain
-not_plain listings.Offsets kind is same = absurd (let e : kinds.Offsets ≡ kinds.Plain = sym is ∙ same in cc)
-not_plain listings.Runs kind is same = absurd (let e : kinds.Runs ≡ kinds.Plain = sym is ∙ same in cc)
-
 pub zero_fits : (bits : ℕ) → Holds 8 (pos 0) × (in_range bits (pos 0) ≡ true)
 zero_fits bits = (omega arith, lt-ltb 0 (2 ^ bits) (pow_pos bits))
 
@@ -194,3 +157,21 @@ pub its_form : (kind : Kind) (codes : List ℕ) (tuples : List (List ℤ)) (form
     → form ≡ form_of kind codes tuples → form ≡ form_of form.kind codes tuples
 its_form kind codes tuples form is =
     subst (λ (k : Kind). form ≡ form_of k codes tuples) (kind_is kind codes tuples form is) is
+
+-- ---- as groups of listed tuples are kept
+
+abbrev formed : Kind → Option ℕ → FormOf
+formed kind rest = record { kind = kind; code_bytes = 0; rest = rest }
+
+pub offsets_formed : (codes : List ℕ) (tuples : List (List ℤ)) (rest : Option ℕ) → rest ≡ rest_of codes tuples
+    → formed kinds.Offsets rest ≡ form_of kinds.Offsets codes tuples
+offsets_formed codes tuples rest e = ap (formed kinds.Offsets) e
+
+pub runs_formed : (codes : List ℕ) (tuples : List (List ℤ)) (rest : Option ℕ) → rest ≡ rest_of codes tuples
+    → formed kinds.Runs rest ≡ form_of kinds.Runs codes tuples
+runs_formed codes tuples rest e = ap (formed kinds.Runs) e
+
+-- the same codes and tuples
+pub same_body : (codes codes' : List ℕ) (tuples tuples' : List (List ℤ)) → codes ≡ codes' → tuples ≡ tuples'
+    → with_codes codes tuples ≡ with_codes codes' tuples'
+same_body codes codes' tuples tuples' c t = λ i. with_codes (c i) (t i)

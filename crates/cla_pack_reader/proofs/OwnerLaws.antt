@@ -1,12 +1,12 @@
--- Lists of rows, and the first one that names a row.
-use Rattle.std.proofs.Common.{◌≡◌, ℕ, suc, ◌+◌, ◌<◌, ◌≤◌, Bool, true, false, eqb, List, [], ◌∷◌, ◌++◌, length, get_or, map, refl, sym, ap, ◌∙◌, append_assoc, append-nil, arith, inl, inr}
+-- Lists of rows, row by row.
+use Rattle.std.proofs.Common.{◌≡◌, ℕ, ◌+◌, ◌<◌, ◌≤◌, Bool, true, false, eqb, List, [], ◌∷◌, ◌++◌, length, get_or, map, refl, sym, ap, ◌∙◌, append_assoc, append-nil, arith}
 use Rattle.std.specs.Prelude.{nat_lt, nat_le, ◌&&◌, ◌||◌, not}
-use Rattle.std.proofs.lemmas.Bool.{cases_Bool, cases_lt, lt-ltb, le-ltb, leb-true, and_parts, not-true}
+use Rattle.std.proofs.lemmas.Bool.{leb-true, and_parts, not-true}
 use Rattle.std.specs.List.{range_with_len}
 use Rattle.std.proofs.lemmas.List.Folds.{list_any-append}
 use Rattle.std.proofs.lemmas.List.FromFn.{get_or-map-range_with_len}
 use Rattle.cla_packed.specs.Codes.{has}
-use Rattle.cla_packed.specs.Lists.{next_from, named, floor_of, owner_in}
+use Rattle.cla_packed.specs.Lists.{next_from, named, floor_of}
 use Rattle.cla_packed.specs.Offsets.{fits_row, joined}
 
 pub or_false : (b : Bool) → (b || false) ≡ b
@@ -19,22 +19,6 @@ has_push ks k j = list_any-append (λ m. eqb m j) ks (k ∷ []) ∙ ap (λ (b : 
 pub next_push : (a i : ℕ) (list : List ℕ) → next_from a (list ++ i ∷ []) ≡ i + 1
 next_push a i [] = refl
 next_push a i (j ∷ list) = next_push (j + 1) i list
-
-lt_suc : (a b : ℕ) → nat_lt a b ≡ nat_lt (1 + a) (suc b)
-lt_suc a b = elim (cases_lt a b) [
-  | inl lt ↦ lt-ltb a b lt ∙ sym (lt-ltb (1 + a) (suc b) (omega (arith, lt)))
-  | inr ge ↦ le-ltb a b ge ∙ sym (le-ltb (1 + a) (suc b) (omega (arith, ge)))
-]
-
-pub named_owner : (lists : List (List ℕ)) (i : ℕ) → (named lists i ≡ nat_lt (owner_in lists i) (length lists))
-    × (owner_in lists i ≤ length lists)
-named_owner [] i = (sym (le-ltb 0 0 (omega arith)), omega arith)
-named_owner (list ∷ lists) i =
-    let more = named_owner lists i in
-    elim (cases_Bool (has list i)) [
-      | inl here ↦ (rw here (sym (lt-ltb 0 (suc (length lists)) (omega arith))), rw here (omega arith))
-      | inr other ↦ (rw other (more.0 ∙ lt_suc (owner_in lists i) (length lists)), rw other (omega (arith, more.1)))
-    ]
 
 pub row_parts : (earlier : List (List ℕ)) (so_far : List ℕ) (i : ℕ) → fits_row earlier so_far i ≡ true
     → (next_from 0 so_far ≤ i) × (named earlier i ≡ false)

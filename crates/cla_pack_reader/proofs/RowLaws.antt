@@ -7,7 +7,7 @@ use Rattle.cla_packed.specs.declared.fault.PackFault.{PackFault}
 use Rattle.cla_packed.specs.declared.fault.PackFault.TheVariants.{Field}
 use Rattle.cla_packed.specs.Fields.{Place, Read, number_at, field_at, then_at, list_at}
 use Rattle.cla_packed.specs.Offsets.{fits_row, joined, segment_rows, fits_count, fits_offset, row_at, segment_at}
-use Rattle.cla_pack_reader.specs.declared.owners.Walk.{Walk}
+use Rattle.cla_pack_reader.specs.declared.walk.Walk.{Walk}
 use Rattle.cla_pack_reader.specs.Places.{Places, Took, Refused}
 use Rattle.cla_pack_reader.specs.Segments.{GivesRows}
 use Rattle.cla_pack_reader.proofs.Steps.{Follows, took_field, refused_field, unfit_field, took_view, refused_view, took_then, refused_first, refused_second}
@@ -118,20 +118,20 @@ module _ (size rows group : ℕ) (earlier : List (List ℕ)) (left : ℕ) (befor
         (refused_first count_at rest_at b b b (Field group Count at)
         (unfit_field 2 group Count (fits_count size rows left before) b m n at f took bad here))
 
-    pub segment_gives : (t d : ℕ) (so_far owners : List ℕ) (floor : ℕ) (result : Result Walk PackFault)
-        → fits_count size rows left before n ≡ true
-        → GivesRows t d earlier so_far owners floor result m r
+    pub segment_gives : (so_far : List ℕ) (marks : List Bool) (places : List ℕ) (floor : ℕ)
+        (result : Result Walk PackFault) → fits_count size rows left before n ≡ true
+        → GivesRows earlier so_far marks places floor result m r
         (list_at (λ left so_far. row_at size rows group earlier before so_far) n [])
-        → GivesRows t d earlier so_far owners floor result b r (segment_at size rows group earlier left before)
+        → GivesRows earlier so_far marks places floor result b r (segment_at size rows group earlier left before)
     unfolding count_at rest_at
-    segment_gives t d so_far owners floor (Ok walk) good g = (
+    segment_gives so_far marks places floor (Ok walk) good g = (
       g.0,
       took_view (λ (x : ℕ × List ℕ). x.1) (then_at count_at rest_at) b r (n, g.0)
           (took_then count_at rest_at b m r n g.0
           (took_field 2 group Count (fits_count size rows left before) b m n took good) g.1),
       g.2,
     )
-    segment_gives t d so_far owners floor (Err e) good g =
+    segment_gives so_far marks places floor (Err e) good g =
         refused_view (λ (x : ℕ × List ℕ). x.1) (then_at count_at rest_at) b b e
         (refused_second count_at rest_at b m r n e f
         (took_field 2 group Count (fits_count size rows left before) b m n took good) g)

@@ -1,74 +1,41 @@
 -- A run that was read is one more run of its tuple.
-use Rattle.std.proofs.Common.{◌≡◌, ℕ, zero, suc, ◌+◌, ◌<◌, ◌≤◌, Bool, true, false, cond, List, [], ◌∷◌, ◌++◌, length, Result, Ok, Err, refl, sym, ap, subst, ◌∙◌, append_assoc, append-nil, arith, inl, inr}
+use Rattle.std.proofs.Common.{◌≡◌, ℕ, ◌+◌, ◌<◌, ◌≤◌, Bool, true, false, cond, List, [], ◌∷◌, ◌++◌, length, get_or, refl, sym, ap, subst, ◌∙◌, append_assoc, append-nil, arith, inl, inr}
 use Rattle.std.specs.Prelude.{nat_lt, nat_le, ◌&&◌, ◌||◌, ◌==◌, not}
-use Rattle.std.specs.List.{list_all, range_with_len}
-use Rattle.std.proofs.lemmas.Bool.{cases_Bool, cases_lt, lt-ltb, le-ltb, eq-eqb, ne_eqb, and_from, and_left, and_right, not_from_true, not_from_false}
+use Rattle.std.specs.List.{range_with_len}
+use Rattle.std.proofs.lemmas.Bool.{cases_Bool, cases_lt, lt-ltb, le-ltb, ltb-true, eq-eqb, ne_eqb, and_left, and_right, not-true, not_from_false, false≢true, false_from_ne_true}
 use Rattle.std.proofs.lemmas.List.{length-append}
-use Rattle.std.proofs.lemmas.List.Folds.{list_all-append, list_all_at}
-use Rattle.std.proofs.lemmas.List.FromFn.{length-range_with_len, get_or-range_with_len}
 use Rattle.cla_packed.specs.declared.fault.FieldName.TheVariants.{Gap, Length, Runs}
 use Rattle.cla_packed.specs.declared.fault.PackFault.{PackFault}
 use Rattle.cla_packed.specs.declared.fault.PackFault.TheVariants.{Field}
 use Rattle.cla_packed.specs.Fields.{Place, Read, number_at, field_at, then_at, list_at}
-use Rattle.cla_packed.specs.Lists.{next_from, named, floor_of}
+use Rattle.cla_packed.specs.Lists.{named, floor_of}
 use Rattle.cla_packed.specs.Runs.{Run, end_of, rows_of_runs, fits_gap, fits_length, run_at, fits_runs, runs_at}
-use Rattle.cla_pack_reader.specs.declared.owners.Walk.{Walk}
-use Rattle.cla_pack_reader.specs.Owners.{IsState}
-use Rattle.cla_pack_reader.specs.Runs.{IsRunState, are_apart, GivesLength, GivesRun}
+use Rattle.cla_packed_laws.proofs.Columns.{all_range, range_all}
+use Rattle.cla_runs.specs.declared.run_list.KeyedRun.{KeyedRun}
+use Rattle.cla_pack_reader.specs.declared.walk.Walk.{Walk}
+use Rattle.cla_pack_reader.specs.ListedRows.{AreRunsOf}
+use Rattle.cla_pack_reader.specs.Runs.{AreNamedFrom, IsRunState, IsNextRun, are_apart}
 use Rattle.cla_pack_reader.specs.Places.{Places, Took, Refused}
 use Rattle.cla_pack_reader.specs.Ranges.{within}
+use Rattle.cla_pack_reader.specs.Walks.{IsState, past}
+use Rattle.cla_pack_reader.proofs.KeptRuns.{run_kept}
 use Rattle.cla_pack_reader.proofs.Steps.{Follows, took_field, refused_field, unfit_field, took_view, refused_view, took_then, refused_first, refused_second}
+use Rattle.cla_pack_reader.proofs.WalkLaws.{in_range, named_from, state_pushed}
 
--- ---- rows one behind the other
+-- ---- rows that no earlier tuple names
 
-range_push : (a n : ℕ) → range_with_len a (suc n) ≡ range_with_len a n ++ (a + n) ∷ []
-range_push a zero =
-    let same : a ≡ a + 0 = omega arith in
-    ap (λ (i : ℕ). i ∷ []) same
-range_push a (suc n) =
-    let same : a + 1 + n ≡ a + suc n = omega arith in
-    ap (λ (l : List ℕ). a ∷ l) (range_push (a + 1) n ∙ ap (λ (i : ℕ). range_with_len (a + 1) n ++ i ∷ []) same)
+module _ (first n : ℕ) (earlier : List (List ℕ)) (marks : List Bool) (named_from : AreNamedFrom first earlier marks)
+    (within : first + n ≤ length marks) where
+  pub apart_if_none : ((i : ℕ) → first ≤ i → i < first + n → get_or marks i false ≡ false)
+      → are_apart earlier (range_with_len first n) ≡ true
+  apart_if_none none = range_all (λ i. not (named earlier i)) first n (λ i ge lt.
+      not_from_false (named earlier i) (sym (named_from i ge (omega (arith, lt, within))) ∙ none i ge lt))
 
-one_more : (a n : ℕ) → range_with_len a (n + 1) ≡ range_with_len a n ++ (a + n) ∷ []
-one_more a n =
-    let same : n + 1 ≡ suc n = omega arith in
-    ap (range_with_len a) same ∙ range_push a n
-
-pub rows_more : (so_far : List ℕ) (a n : ℕ)
-    → (so_far ++ range_with_len a n) ++ (a + n) ∷ [] ≡ so_far ++ range_with_len a (n + 1)
-rows_more so_far a n = append_assoc so_far (range_with_len a n) ((a + n) ∷ [])
-    ∙ ap (λ (l : List ℕ). so_far ++ l) (sym (one_more a n))
-
-pub apart_more : (earlier : List (List ℕ)) (a n : ℕ) → are_apart earlier (range_with_len a n) ≡ true
-    → named earlier (a + n) ≡ false → are_apart earlier (range_with_len a (n + 1)) ≡ true
-apart_more earlier a n all new =
-    let test = λ (i : ℕ). not (named earlier i) in
-    ap (λ (l : List ℕ). list_all test l) (one_more a n)
-    ∙ list_all-append test (range_with_len a n) ((a + n) ∷ [])
-    ∙ and_from (list_all test (range_with_len a n)) (list_all test ((a + n) ∷ [])) all
-    (and_from (test (a + n)) true (not_from_false (named earlier (a + n)) new) refl)
-
-pub not_apart : (earlier : List (List ℕ)) (a n i : ℕ) → i < n → named earlier (a + i) ≡ true
-    → are_apart earlier (range_with_len a n) ≡ false
-not_apart earlier a n i lt old =
-    let test = λ (j : ℕ). not (named earlier j) in
-    let there : i < length (range_with_len a n) = omega (arith, lt, length-range_with_len a n) in
-    list_all_at test (range_with_len a n) i 0 there
-    (ap test (get_or-range_with_len a n i 0 lt) ∙ not_from_true (named earlier (a + i)) old)
-
-next_append : (a : ℕ) (xs ys : List ℕ) → next_from a (xs ++ ys) ≡ next_from (next_from a xs) ys
-next_append a [] ys = refl
-next_append a (i ∷ xs) ys = next_append (i + 1) xs ys
-
-next_range : (a b n : ℕ) → next_from a (range_with_len b (suc n)) ≡ b + suc n
-next_range a b zero = refl
-next_range a b (suc n) =
-    let same : b + 1 + suc n ≡ b + suc (suc n) = omega arith in
-    next_range (b + 1) (b + 1) n ∙ same
-
-next_rows : (a b n : ℕ) → 0 < n → next_from a (range_with_len b n) ≡ b + n
-next_rows a b zero h = absurd (omega (arith, h))
-next_rows a b (suc n) h = next_range a b n
+  pub not_apart : (i : ℕ) → first ≤ i → i < first + n → get_or marks i false ≡ true
+      → are_apart earlier (range_with_len first n) ≡ false
+  not_apart i ge lt there = false_from_ne_true (are_apart earlier (range_with_len first n)) (λ all.
+      let new = not-true (named earlier i) (all_range (λ i. not (named earlier i)) first n i all ge lt) in
+      false≢true (sym new ∙ sym (named_from i ge (omega (arith, lt, within))) ∙ there))
 
 -- ---- one run more
 
@@ -85,31 +52,72 @@ end_push : (a : ℕ) (runs : List Run) (run : Run) → end_of a (runs ++ run ∷
 end_push a [] run = refl
 end_push a (r ∷ runs) run = end_push (a + r.0 + r.1) runs run
 
-module _ (t d : ℕ) (earlier : List (List ℕ)) (owners : List ℕ) (walk : Walk) (floor : ℕ) where
-  pub no_runs : IsState t d earlier [] owners walk floor → IsRunState t d earlier [] owners walk floor
-  no_runs s = record { state = s; end_is = refl; some_is = refl }
+pub no_runs : (earlier : List (List ℕ)) (marks : List Bool) (walk : Walk) (floor : ℕ)
+    → IsState earlier [] marks walk floor → IsRunState earlier [] marks walk floor
+no_runs earlier marks walk floor s = record { state = s; end_is = refl; some_is = refl }
 
-  pub run_pushed : (so_far : List Run) (run : Run) → 0 < run.1
-      → IsState t d earlier (rows_of_runs 0 so_far ++ range_with_len (end_of 0 so_far + run.0) run.1) owners walk floor
-      → IsRunState t d earlier (so_far ++ run ∷ []) owners walk floor
-  run_pushed so_far run some s =
-      let first = end_of 0 so_far + run.0 in
+module _ (t : ℕ) (earlier : List (List ℕ)) (so_far : List Run) (marks : List Bool) (walk : Walk) (floor : ℕ)
+    (s : IsRunState earlier so_far marks walk floor) (read : Run) (run : KeyedRun)
+    (next : IsNextRun t earlier so_far read run) (order : run.begin < run.end) where
+  behind : walk.next ≤ run.begin
+  behind = omega (arith, s.state.next, s.end_is, next.begin)
+
+  pub run_pushed : (marks' : List Bool) → length marks' ≡ length marks
+      → ((i : ℕ) → i < length marks → get_or marks' i false ≡ (get_or marks i false || in_range run.begin run.end i))
+      → IsRunState earlier (so_far ++ read ∷ []) marks' (past walk run.begin run.end) floor
+  run_pushed marks' size put =
+      let first = end_of 0 so_far + read.0 in
       let rows = rows_of_runs 0 so_far in
-      let front = range_with_len first run.1 in
-      let same = rows_push 0 so_far run in
-      let count : length (rows_of_runs 0 (so_far ++ run ∷ [])) ≡ length rows + run.1 =
-      ap (λ (l : List ℕ). length l) same ∙ length-append rows front
-      ∙ ap (λ (m : ℕ). length rows + m) (length-range_with_len first run.1) in
-      let more : length (so_far ++ run ∷ []) ≡ length so_far + 1 = length-append so_far (run ∷ []) in
+      let front = range_with_len first read.1 in
+      let some : 0 < read.1 = omega (arith, order, next.end) in
+      let same : rows_of_runs 0 (so_far ++ read ∷ []) ≡ rows ++ range_with_len run.begin read.1 =
+      rows_push 0 so_far read ∙ ap (λ (i : ℕ). rows ++ range_with_len i read.1) (sym next.begin) in
+      let more : length (so_far ++ read ∷ []) ≡ length so_far + 1 = length-append so_far (read ∷ []) in
+      let pushed = state_pushed earlier rows marks walk floor s.state run.begin read.1 marks' some behind size
+      (λ i lt. put i lt ∙ ap (λ (e : ℕ). get_or marks i false || in_range run.begin e i) next.end) in
+      let state = subst (λ (e : ℕ). IsState earlier (rows ++ range_with_len run.begin read.1) marks'
+      (past walk run.begin e) floor) (sym next.end) pushed in
+      let state' = subst (λ (l : List ℕ). IsState earlier l marks' (past walk run.begin run.end) floor) (sym same) state in
+      let started : nat_lt 0 (length (rows_of_runs 0 (so_far ++ read ∷ []))) ≡ true = sym state'.started in
       record {
-        state = subst (λ (l : List ℕ). IsState t d earlier l owners walk floor) (sym same) s;
-        end_is = ap (next_from 0) same ∙ next_append 0 rows front ∙ next_rows (next_from 0 rows) first run.1 some
-            ∙ sym (end_push 0 so_far run);
-        some_is = lt-ltb 0 (length (rows_of_runs 0 (so_far ++ run ∷ []))) (omega (arith, count, some))
-            ∙ sym (lt-ltb 0 (length (so_far ++ run ∷ [])) (omega (arith, more)));
+        state = state';
+        end_is = sym state'.next ∙ next.end ∙ ap (λ (m : ℕ). m + read.1) next.begin ∙ sym (end_push 0 so_far read);
+        some_is = started ∙ sym (lt-ltb 0 (length (so_far ++ read ∷ [])) (omega (arith, more)));
       }
 
+  pub run_is_kept : (rows : ℕ) (kept : List KeyedRun) → t ≡ length earlier → run.end ≤ rows
+      → AreRunsOf rows (earlier ++ rows_of_runs 0 so_far ∷ []) kept
+      → AreRunsOf rows (earlier ++ rows_of_runs 0 (so_far ++ read ∷ []) ∷ []) (kept ++ run ∷ [])
+  run_is_kept rows kept is within r =
+      let list = rows_of_runs 0 so_far in
+      let some : 0 < read.1 = omega (arith, order, next.end) in
+      let same : rows_of_runs 0 (so_far ++ read ∷ []) ≡ list ++ range_with_len run.begin read.1 =
+      rows_push 0 so_far read ∙ ap (λ (i : ℕ). list ++ range_with_len i read.1) (sym next.begin) in
+      let gap = λ (h : 0 < length list).
+      (let there : 0 < length so_far =
+      ltb-true 0 (length so_far) (sym s.some_is ∙ lt-ltb 0 (length list) h) in
+      let apart : 0 < read.0 = next.gap there in
+      let far : walk.next < run.begin = omega (arith, apart, s.state.next, s.end_is, next.begin) in
+      far) in
+      let new = not-true (named earlier run.begin) (all_range (λ i. not (named earlier i)) run.begin read.1 run.begin
+      next.apart (omega arith) (omega (arith, some))) in
+      subst (λ (l : List ℕ). AreRunsOf rows (earlier ++ l ∷ []) (kept ++ run ∷ [])) (sym same)
+      (run_kept rows earlier kept list walk.next s.state.below run read.1 (next.key ∙ is) next.end some within behind gap
+      new r)
+
 -- ---- a run's fields
+
+pub named_behind : (earlier : List (List ℕ)) (so_far : List Run) (marks : List Bool) (walk : Walk) (floor : ℕ)
+    → IsRunState earlier so_far marks walk floor → (first : ℕ) → walk.next ≤ first → AreNamedFrom first earlier marks
+named_behind earlier so_far marks walk floor s first le i ge lt =
+    named_from earlier (rows_of_runs 0 so_far) marks walk floor s.state i (omega (arith, le, ge)) lt
+
+pub gap_apart : (so_far : List Run) (gap : ℕ) (started : Bool) (floor first : ℕ)
+    → started ≡ nat_lt 0 (length so_far) → cond started (nat_lt 0 gap) (nat_le floor first) ≡ true
+    → 0 < length so_far → 0 < gap
+gap_apart so_far gap started floor first is fits some =
+    ltb-true 0 gap (sym (ap (λ (b : Bool). cond b (nat_lt 0 gap) (nat_le floor first))
+    (is ∙ lt-ltb 0 (length so_far) some)) ∙ fits)
 
 module _ (rows : ℕ) (earlier : List (List ℕ)) (so_far : List Run) (gap first : ℕ)
     (first_is : first ≡ end_of 0 so_far + gap) where
@@ -171,22 +179,19 @@ module _ (rows group : ℕ) (earlier : List (List ℕ)) (so_far : List Run) (b m
     gap_refused at here bad = refused_first gap_at length_at b b b (Field group Gap at)
         (unfit_field 4 group Gap (fits_gap rows earlier so_far) b m gap at f took bad here)
 
-    pub run_gives : (t d : ℕ) (owners : List ℕ) (floor : ℕ) (result : Result Walk PackFault)
-        → fits_gap rows earlier so_far gap ≡ true
-        → GivesLength t d earlier (rows_of_runs 0 so_far) (end_of 0 so_far + gap) owners floor result m r
-        (field_at 4 (fits_length rows earlier so_far gap) group Length)
-        → GivesRun t d earlier so_far owners floor result b r (run_at rows group earlier so_far)
+    pub run_reads : (n : ℕ) → fits_gap rows earlier so_far gap ≡ true
+        → Took m r (field_at 4 (fits_length rows earlier so_far gap) group Length) n
+        → Took b r (run_at rows group earlier so_far) (gap, n)
     unfolding gap_at length_at
-    run_gives t d owners floor (Ok walk) good g =
-        let run : Run = (gap, g.0) in (
-          run,
-          took_then gap_at length_at b m r gap g.0
-              (took_field 4 group Gap (fits_gap rows earlier so_far) b m gap took good) g.1,
-          run_pushed t d earlier owners walk floor so_far run g.2 g.3,
-        )
-    run_gives t d owners floor (Err e) good g =
-        refused_second gap_at length_at b m r gap e f
-        (took_field 4 group Gap (fits_gap rows earlier so_far) b m gap took good) g
+    run_reads n good more = took_then gap_at length_at b m r gap n
+        (took_field 4 group Gap (fits_gap rows earlier so_far) b m gap took good) more
+
+    pub length_refused : (e : PackFault) → fits_gap rows earlier so_far gap ≡ true
+        → Refused m (field_at 4 (fits_length rows earlier so_far gap) group Length) e
+        → Refused b (run_at rows group earlier so_far) e
+    unfolding gap_at length_at
+    length_refused e good bad = refused_second gap_at length_at b m r gap e f
+        (took_field 4 group Gap (fits_gap rows earlier so_far) b m gap took good) bad
 
 -- ---- the runs of a tuple
 

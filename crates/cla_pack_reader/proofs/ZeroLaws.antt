@@ -1,5 +1,5 @@
 -- The tuple of zeros among others, and the owners that lists make.
-use Rattle.std.proofs.Common.{mul-le-mul_right, ◌≡◌, ℕ, ℤ, pos, zero, suc, ◌+◌, ◌*◌, ◌-◌, ◌<◌, ◌≤◌, min, Bool, false, List, [], ◌∷◌, ◌++◌, length, map, take, drop, replicate, Ok, refl, sym, ap, subst, ◌∙◌, append_assoc, arith, inl, inr}
+use Rattle.std.proofs.Common.{mul-le-mul_right, ◌≡◌, ℕ, ℤ, pos, zero, suc, ◌+◌, ◌*◌, ◌-◌, ◌<◌, ◌≤◌, min, Bool, List, [], ◌∷◌, ◌++◌, length, map, take, drop, replicate, Ok, refl, sym, ap, subst, ◌∙◌, append_assoc, arith, inl, inr}
 use native.Mathlib.Nat.{add-mul}
 use Rattle.std.specs.Prelude.{nat_lt, ◌^◌}
 use Rattle.std.proofs.lemmas.Bool.{cases_Bool, cases_lt, ltb-false}
@@ -10,25 +10,18 @@ use Rattle.cla_layout.specs.Groups.{at}
 use Rattle.cla_layout.specs.Tuples.{tuple_at, tuples_of}
 use Rattle.cla_layout.proofs.Tuples.{place_within}
 use Rattle.cla_packed.specs.declared.fault.FieldName.{FieldName}
-use Rattle.cla_packed.specs.declared.fault.FieldName.TheVariants.{Rest}
 use Rattle.cla_packed.specs.declared.fault.PackFault.TheVariants.{Field}
-use Rattle.cla_packed.specs.Fields.{Place, IsBytes, number_at, field_at, list_at, tested, after}
-use Rattle.cla_packed.specs.Lists.{IsList, AreOwners, owners_of}
+use Rattle.cla_packed.specs.Fields.{Place, IsBytes, number_at, field_at, tested, after}
+use Rattle.cla_packed.specs.Lists.{IsList}
 use Rattle.cla_packed.specs.Offsets.{offsets_bytes}
-use Rattle.cla_packed.specs.Rests.{fits_listed, with_tuple}
+use Rattle.cla_packed.specs.Rests.{with_tuple}
 use Rattle.cla_packed.specs.Runs.{runs_bytes}
-use Rattle.cla_packed.specs.Values.{tuples_at}
-use Rattle.cla_packed_laws.proofs.Forms.{IsAt, IsForm, bind_ok, passed, list_form}
-use Rattle.cla_packed_laws.proofs.Lists.{owners_from}
+use Rattle.cla_packed_laws.proofs.Forms.{IsForm, bind_ok, passed}
 use Rattle.cla_packed_laws.proofs.Offsets.{offsets_form}
 use Rattle.cla_packed_laws.proofs.Runs.{runs_form}
-use Rattle.cla_packed_laws.proofs.Values.{tuples_form}
 use Rattle.cla_pack_reader.specs.declared.list.Listing.{Listing}
 use Rattle.cla_pack_reader.specs.declared.list.Listing.TheVariants.{Offsets, Runs}
 use Rattle.cla_pack_reader.specs.Listings.{rows_at}
-use Rattle.cla_pack_reader.specs.Places.{places_of, Took}
-use Rattle.cla_io.specs.Lines.{Progress}
-use Rattle.cla_io.specs.State.{State}
 use Rattle.cla_pack_reader.proofs.TupleLaws.{tuples_more}
 
 -- ---- tuples one behind the other
@@ -178,7 +171,7 @@ near_number k group name p q n h = elim (cases_Bool (nat_lt p.limit (p.offset + 
   ]
 ]
 
-near_field : (k : ℕ) (test : ℕ → Bool) (group : ℕ) (name : FieldName) (p q : Place) (n : ℕ)
+pub near_field : (k : ℕ) (test : ℕ → Bool) (group : ℕ) (name : FieldName) (p q : Place) (n : ℕ)
     → field_at k test group name p ≡ Ok (n, q) → q.offset ≤ q.limit
 unfolding field_at
 near_field k test group name p q n h =
@@ -196,28 +189,3 @@ unfolding list_bytes
 list_form_of Offsets rows group some few earlier =
     offsets_form 32768 rows group earlier (omega arith) (omega arith) some
 list_form_of Runs rows group some few earlier = runs_form rows group earlier (omega (arith, few))
-
-module _ (listing : Listing) (bits group rows width d rest : ℕ) (ts : List (List ℤ)) (lists : List (List ℕ))
-    (t1 t2 t3 t4 : Progress) (s1 s2 s3 s4 : State) (some : 0 < rows) (few : rows < 2 ^ 31) (wide : 0 < width) where
-  pub owners_good : (test : ℕ → Bool)
-      → Took (places_of t1 s1) (places_of t2 s2) (field_at 1 test group Rest) rest
-      → Took (places_of t2 s2) (places_of t3 s3) (tuples_at 8 bits group width fits_listed d) ts
-      → Took (places_of t3 s3) (places_of t4 s4)
-      (list_at (λ left earlier. rows_at listing rows group earlier) d []) lists
-      → (length lists ≡ d) × AreOwners rows d (owners_of rows lists)
-  unfolding list_bytes
-  owners_good test flag tuples took =
-      let q : Place = record { offset = t4.at; limit = t4.limit; rest = [] } in
-      let three = took false q (refl, refl, none_bytes) in
-      let two = tuples false three.0 three.1 in
-      let one = flag false two.0 two.1 in
-      let at_two : IsAt two.0 = record {
-        fits = two.1.2;
-        near = near_field 1 test group Rest one.0 two.0 rest one.2;
-      } in
-      let t = (tuples_form 8 bits group width fits_listed d wide).takes two.0 three.0 ts at_two two.2 in
-      let form = list_form (λ left earlier. rows_at listing rows group earlier)
-      (λ left earlier list. IsList rows earlier list) (list_bytes listing rows)
-      (λ left earlier. list_form_of listing rows group some few earlier) d in
-      let l = form.takes three.0 q lists t.2 three.2 in
-      (l.0.0, subst (λ (n : ℕ). AreOwners rows n (owners_of rows lists)) l.0.0 (owners_from rows lists l.0.1).0)

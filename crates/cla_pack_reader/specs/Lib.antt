@@ -1,6 +1,7 @@
 pub mod Places
 pub mod Ranges
-pub mod Owners
+pub mod Walks
+pub mod ListedRows
 pub mod Values
 pub mod Segments
 pub mod Runs
@@ -14,3 +15,5 @@ pub mod Marks
 pub mod Taken
 pub mod Kept
 pub mod Reading
+pub mod Keys
+pub mod ListedParts

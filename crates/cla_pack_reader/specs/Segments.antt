@@ -1,43 +1,37 @@
 -- What reading rows gives, with the state that it leaves.
-use Rattle.std.specs.Prelude.{◌≡◌, ℕ, ◌+◌, List, [], ◌∷◌, ◌++◌, Result, Ok, Err}
-use Rattle.std.specs.declared.vec.Vec.{Vec}
-use Rattle.std.specs.declared.alloc.Global.{Global}
+use Rattle.std.specs.Prelude.{◌≡◌, ℕ, ◌<◌, List, [], ◌∷◌, ◌++◌, length, Bool, true, eqb, Result, Ok, Err}
+use Rattle.std.specs.List.{IsDistinct}
 use Rattle.cla_packed.specs.declared.fault.PackFault.{PackFault}
+use Rattle.cla_packed.specs.Codes.{has}
 use Rattle.cla_packed.specs.Fields.{Place, Read}
-use Rattle.cla_packed.specs.Lists.{owners_of}
-use Rattle.cla_pack_reader.specs.declared.owners.Walk.{Walk}
-use Rattle.cla_pack_reader.specs.Owners.{IsState, at_start}
+use Rattle.cla_packed.specs.Offsets.{fits_row, joined}
+use Rattle.cla_pack_reader.specs.declared.walk.Walk.{Walk}
+use Rattle.cla_pack_reader.specs.Walks.{IsState, at_start}
 use Rattle.cla_pack_reader.specs.Places.{Places, Took, Refused}
 
--- one row more, or the fault
-abbrev pub GivesRow : ℕ → ℕ → List (List ℕ) → List ℕ → List ℕ → ℕ → Result Walk PackFault → Places → Places
-    → (Place → Read ℕ) → Type 0
-GivesRow t d earlier so_far owners floor (Ok walk) b a read = (i : ℕ) × Took b a read i
-    × IsState t d earlier (so_far ++ i ∷ []) owners walk floor
-GivesRow t d earlier so_far owners floor (Err e) b a read = Refused b read e
+-- behind some rows of a tuple, where the rows of all are kept one behind the other
+pub record IsOffsetState (earlier : List (List ℕ)) (so_far : List ℕ) (marks : List Bool) (places : List ℕ) (walk : Walk)
+    (floor : ℕ) : Type 0 where
+  pub state : IsState earlier so_far marks walk floor
+  pub kept : places ≡ joined earlier ++ so_far
+  pub once : IsDistinct eqb places
+  pub within : (i : ℕ) → has places i ≡ true → i < length marks
+
+-- one row more, which fits, or the fault
+abbrev pub GivesRow : List (List ℕ) → List ℕ → Result ℕ PackFault → Places → Places → (Place → Read ℕ) → Type 0
+GivesRow earlier so_far (Ok row) b a read = Took b a read row × (fits_row earlier so_far row ≡ true)
+GivesRow earlier so_far (Err e) b a read = Refused b read e
 
 -- some rows more, or the fault
-abbrev pub GivesRows : ℕ → ℕ → List (List ℕ) → List ℕ → List ℕ → ℕ → Result Walk PackFault → Places → Places
+abbrev pub GivesRows : List (List ℕ) → List ℕ → List Bool → List ℕ → ℕ → Result Walk PackFault → Places → Places
     → (Place → Read (List ℕ)) → Type 0
-GivesRows t d earlier so_far owners floor (Ok walk) b a read = (list : List ℕ) × Took b a read list
-    × IsState t d earlier (so_far ++ list) owners walk floor
-GivesRows t d earlier so_far owners floor (Err e) b a read = Refused b read e
+GivesRows earlier so_far marks places floor (Ok walk) b a read = (list : List ℕ) × Took b a read list
+    × IsOffsetState earlier (so_far ++ list) marks places walk floor
+GivesRows earlier so_far marks places floor (Err e) b a read = Refused b read e
 
 -- one list more, or the fault
-abbrev pub GivesList : ℕ → ℕ → List (List ℕ) → List ℕ → Result ℕ PackFault → Places → Places
+abbrev pub GivesList : List (List ℕ) → List Bool → List ℕ → Result ℕ PackFault → Places → Places
     → (Place → Read (List ℕ)) → Type 0
-GivesList t d earlier owners (Ok floor) b a read = (list : List ℕ) × Took b a read list
-    × IsState (t + 1) d (earlier ++ list ∷ []) [] owners at_start floor
-GivesList t d earlier owners (Err e) b a read = Refused b read e
-
--- all lists, whose rows have their owners, or the fault
-abbrev pub GivesLists : ℕ → List ℕ → Result (Unit {0}) PackFault → Places → Places → (Place → Read (List (List ℕ)))
-    → Type 0
-GivesLists rows owners (Ok u) b a read = (lists : List (List ℕ)) × Took b a read lists × (owners ≡ owners_of rows lists)
-GivesLists rows owners (Err e) b a read = Refused b read e
-
--- the owner of each row, by all lists, or the fault
-abbrev pub GivesOwners : ℕ → Result (Vec ℕ Global) PackFault → Places → Places → (Place → Read (List (List ℕ))) → Type 0
-GivesOwners rows (Ok owners) b a read = (lists : List (List ℕ)) × Took b a read lists
-    × (owners.items ≡ owners_of rows lists)
-GivesOwners rows (Err e) b a read = Refused b read e
+GivesList earlier marks places (Ok floor) b a read = (list : List ℕ) × Took b a read list
+    × IsOffsetState (earlier ++ list ∷ []) [] marks places at_start floor
+GivesList earlier marks places (Err e) b a read = Refused b read e

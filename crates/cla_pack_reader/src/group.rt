@@ -14,8 +14,9 @@ ghost use Rattle.cla_pack_reader.specs.Places.{places_of, HasReadCause, Reads};
 
 use crate::coded::{GroupBody, coded_body};
 use crate::list::Listing;
-use crate::listed::listed_body;
+use crate::offset_group::offset_group;
 use crate::plain::plain_values;
+use crate::run_group::run_group;
 use cla_coded::AnyGroup;
 use cla_io::{Files, Input};
 use cla_layout::Kind;
@@ -99,15 +100,6 @@ fn coded_group<N: Number, F: Files>(
     }
 }
 
-fn listed_kind(listing: Listing) -> Kind
-    ensures { result ≡ kind_listed listing }
-{
-    match listing {
-        Listing::Offsets => Kind::Offsets,
-        Listing::Runs => Kind::Runs,
-    }
-}
-
 fn listed_group<N: Number, F: Files>(
     alloc: Global,
     input: &mut Input<'_, F>,
@@ -130,13 +122,9 @@ fn listed_group<N: Number, F: Files>(
         let end = places_of input.new.taken (F.state input.new.files.now) in
         Reads start end body_kept result (listed_at (rows_at listing rows group) 8 N.BITS group rows width) }
 {
-    let body = match listed_body(alloc, input, listing, group, rows, width) {
-        Ok(body) => body,
-        Err(fault) => return Err(fault),
-    };
-    match from_body(alloc, listed_kind(listing), width, body) {
-        Ok(group) => Ok(group),
-        Err(Memory) => Err(PackFault::Memory),
+    match listing {
+        Listing::Offsets => offset_group(alloc, input, group, rows, width),
+        Listing::Runs => run_group(alloc, input, group, rows, width),
     }
 }
 

@@ -1,126 +1,111 @@
-//! A group whose tuples are listed with their rows.
+//! The tuples of a group that lists them with their rows.
 
-ghost use Rattle.std.specs.Prelude.{◌≡◌, ◌*◌, ◌≤◌, ◌<◌, ◌^◌, ◌==◌, [], length, not, if◌then◌else◌, IfOk};
+ghost use Rattle.std.specs.Prelude.{◌≡◌, ℕ, ◌≤◌, pos, List, map, replicate, IfOk, MatchResult};
 ghost use Rattle.cla_num.specs.Bits.{IsSupported};
 ghost use Rattle.cla_io.specs.InputFrame.{ReadsOn};
-ghost use Rattle.cla_packed.specs.Codes.{has};
-ghost use Rattle.cla_packed.specs.Fields.{list_at};
-ghost use Rattle.cla_packed.specs.Rests.{listed_at};
-ghost use Rattle.cla_pack_reader.specs.Bodies.{body_seen, AreWholeTuples};
-ghost use Rattle.cla_pack_reader.specs.Listings.{rows_at};
-ghost use Rattle.cla_pack_reader.specs.Places.{places_of, HasReadCause, Reads};
-ghost use Rattle.cla_pack_reader.specs.Segments.{GivesOwners};
+ghost use Rattle.cla_layout.specs.Tuples.{tuples_of};
+ghost use Rattle.cla_packed.specs.Rests.{rest_code, with_rest, with_tuple, listed_at};
+ghost use Rattle.cla_pack_reader.specs.ListedParts.{OneList, HeadOf, AreListedTuples, AreFewCells};
+ghost use Rattle.cla_pack_reader.specs.ListedParts.{AreAllListed, HasRest, IsDictionaryFor};
+ghost use Rattle.cla_pack_reader.specs.Places.{places_of, HasReadCause, Refused};
 
-use crate::coded::GroupBody;
 use crate::fields::field;
-use crate::list::{Listing, lists_of};
 use crate::tuples::tuples;
-use crate::zeros::with_zeros;
+use crate::zeros::put_zeros;
+use cla_group::Dictionary;
 use cla_io::{Files, Input};
 use cla_num::{Memory, Number};
 use cla_packed::{FieldName, PackFault};
 use std::alloc::Global;
 
-/// The owner of each of `rows` rows, by the lists of d tuples: d where no list names it.
-pub(crate) fn owners_of<F: Files>(
+/// The tuples that a group lists with their rows, none of which is the tuple of zeros.
+#[derive(Drop)]
+pub(crate) struct ListedTuples<N: Number> {
+    /// How many there are.
+    pub(crate) count: u32,
+
+    /// Whether some row is in no list, and so has the tuple of zeros.
+    pub(crate) has_rest: bool,
+
+    /// Their values, tuple after tuple.
+    pub(crate) values: Vec<N>,
+}
+
+/// What stands before the lists of a group: how many tuples it has, whether there is a rest, and the
+/// tuples.
+pub(crate) fn listed_tuples<N: Number, F: Files>(
     alloc: Global,
     input: &mut Input<'_, F>,
-    listing: Listing,
-    group: u32,
-    d: u32,
-    rows: u32,
-) -> Result<Vec<u32>, PackFault>
-    requires few { rows < 2 ^ 31 }
-    ensures same_reference { input.new.files.ghost_name ≡ input.old.files.ghost_name }
-    ensures frame { ReadsOn (F.state input.old.files.now) (F.state input.new.files.now) }
-    ensures cause { HasReadCause (F.state input.old.files.now).read_faults (F.state input.new.files.now).read_faults
-        result }
-    ensures exact { let start = places_of input.old.taken (F.state input.old.files.now) in
-        let end = places_of input.new.taken (F.state input.new.files.now) in
-        GivesOwners rows result start end (list_at (λ left earlier. rows_at listing rows group earlier) d []) }
-{
-    let Ok(mut owners) = Vec::from_elem(alloc, d, rows as usize) else {
-        return Err(PackFault::Memory);
-    };
-    match lists_of(input, owners.as_mut_slice(), listing, group, d) {
-        Ok(()) => Ok(owners),
-        Err(fault) => Err(fault),
-    }
-}
-
-// Whether some row has no list.
-fn has_rest(owners: &[u32], d: u32) -> bool
-    ensures { result ≡ has owners.now d }
-{
-    owners.contains(&d)
-}
-
-// Whether some row has no list exactly where there is to be a rest.
-fn is_covered(rest: u64, unlisted: bool) -> bool
-    ensures { result ≡ (if rest == 0 then not unlisted else unlisted) }
-{
-    if rest == 0 {
-        return !unlisted;
-    }
-    unlisted
-}
-
-/// The body of a group whose tuples are listed with their rows. The rows that no list names have the tuple
-/// of zeros.
-pub(crate) fn listed_body<N: Number, F: Files>(
-    alloc: Global,
-    input: &mut Input<'_, F>,
-    listing: Listing,
     group: u32,
     rows: u32,
     width: u32,
-) -> Result<GroupBody<N>, PackFault>
+) -> Result<ListedTuples<N>, PackFault>
     requires bits { IsSupported N.BITS }
     requires some { 1 ≤ width }
-    requires a_row { 1 ≤ rows }
-    requires most { rows < 2 ^ 31 }
-    requires few { rows * width ≤ 2 ^ 26 }
     ensures same_reference { input.new.files.ghost_name ≡ input.old.files.ghost_name }
     ensures frame { ReadsOn (F.state input.old.files.now) (F.state input.new.files.now) }
     ensures cause { HasReadCause (F.state input.old.files.now).read_faults (F.state input.new.files.now).read_faults
         result }
-    ensures whole { IfOk result (λ body. AreWholeTuples width body.values.items) }
+    ensures tuples { IfOk result (λ x. AreListedTuples N.value width x.count x.values.items) }
+    ensures near { IfOk result (λ _. input.new.taken.at ≤ input.new.taken.limit) }
     ensures exact { let start = places_of input.old.taken (F.state input.old.files.now) in
         let end = places_of input.new.taken (F.state input.new.files.now) in
-        Reads start end (λ body. body_seen N.value width body.codes.items body.values.items) result
-        (listed_at (rows_at listing rows group) 8 N.BITS group rows width) }
+        (one : OneList) → MatchResult result
+        (λ x. HeadOf one N.BITS group rows width start end x.count x.has_rest
+        (tuples_of width x.count (map N.value x.values.items)))
+        (λ e. Refused start (listed_at one 8 N.BITS group rows width) e) }
 {
-    let d = match field(input, 4, 0, rows as u64, group, FieldName::Tuples) {
-        Ok(d) => d as u32,
+    let count = match field(input, 4, 0, rows as u64, group, FieldName::Tuples) {
+        Ok(count) => count as u32,
         Err(fault) => return Err(fault),
     };
     let rest = match field(input, 1, 0, 1, group, FieldName::Rest) {
         Ok(rest) => rest,
         Err(fault) => return Err(fault),
     };
-    let values = match tuples(alloc, input, group, width, d, true) {
+    let values = match tuples(alloc, input, group, width, count, true) {
         Ok(values) => values,
         Err(fault) => return Err(fault),
     };
-    let owners = match owners_of(alloc, input, listing, group, d, rows) {
-        Ok(owners) => owners,
-        Err(fault) => return Err(fault),
-    };
-    if !is_covered(rest, has_rest(&owners, d)) {
-        return Err(PackFault::Field {
-            group,
-            field: FieldName::Cover,
-            at: input.at(),
-        });
+    Ok(ListedTuples {
+        count,
+        has_rest: rest == 1,
+        values,
+    })
+}
+
+impl<N: Number> ListedTuples<N> {
+    /// Their dictionary, where each row is in a list.
+    pub(crate) fn dictionary(self, width: u32) -> Dictionary<N>
+        requires tuples { AreListedTuples N.value width self.count self.values.items }
+        requires owners { (rows : ℕ) × (owners : List ℕ) × AreFewCells rows width
+            × AreAllListed rows self.count owners }
+        ensures { let tuples = tuples_of width self.count (map N.value self.values.items) in
+            (rows : ℕ) (owners : List ℕ) → AreFewCells rows width → AreAllListed rows self.count owners
+            → IsDictionaryFor N.BITS width owners self.count tuples result }
+    {
+        Dictionary::of_values(width, self.values)
     }
-    if rest == 0 {
-        return Ok(GroupBody {
-            codes: owners,
-            values,
-        });
-    }
-    match with_zeros(alloc, owners, values, d, width) {
-        Ok(body) => Ok(body),
-        Err(Memory) => Err(PackFault::Memory),
+
+    /// Their dictionary, where the first row that is in no list is behind the first rows of r of them:
+    /// the tuple of zeros has code r.
+    pub(crate) fn dictionary_with_rest(
+        self,
+        alloc: Global,
+        width: u32,
+        r: u32,
+    ) -> Result<Dictionary<N>, Memory>
+        requires bits { IsSupported N.BITS }
+        requires tuples { AreListedTuples N.value width self.count self.values.items }
+        requires owners { (rows first : ℕ) × (owners : List ℕ) × AreFewCells rows width
+            × HasRest rows self.count owners first × (r ≡ rest_code self.count owners) }
+        ensures { let d = self.count in
+            let tuples = with_tuple r (replicate width (pos 0)) (tuples_of width d (map N.value self.values.items)) in
+            (rows first : ℕ) (owners : List ℕ) → AreFewCells rows width → HasRest rows d owners first
+            → r ≡ rest_code d owners
+            → IfOk result (IsDictionaryFor N.BITS width (map (with_rest d r) owners) r tuples) }
+    {
+        let values = put_zeros(alloc, &self.values, r as usize * width as usize, width)?;
+        Ok(Dictionary::of_values(width, values))
     }
 }

@@ -58,8 +58,8 @@ fn read_end<F: Files>(input: &mut Input<'_, F>) -> Result<(), PackFault>
 /// `TooLarge` and `TooLong` come where they stand in the order of the file, `Read` only where faults of
 /// reading rose, and `Memory` at any field. `Ok` says that the file was read to its end.
 ///
-/// It takes memory by what was read, and besides four bytes for each row of a group whose rows are listed
-/// and a bit for each column.
+/// It takes memory by what was read, and besides a bit for each row of a group whose rows are listed and a
+/// bit for each column. No row of such a group gets a code.
 pub fn read_packed<N: Number, F: Files>(
     alloc: Global,
     input: &mut Input<'_, F>,

@@ -3,41 +3,42 @@
 ghost use Rattle.std.specs.Prelude.{◌≡◌, ℕ, ◌+◌, ◌*◌, ◌^◌, ◌<◌, ◌≤◌, ◌++◌, ◌&&◌, ◌||◌, not, nat_lt, List, [], length, IfOk};
 ghost use Rattle.cla_packed.specs.Fields.{list_at};
 ghost use Rattle.cla_packed.specs.Offsets.{row_at, segment_at, joined, segment_rows};
-ghost use Rattle.cla_pack_reader.specs.Owners.{IsState};
 ghost use Rattle.cla_pack_reader.specs.Places.{places_of, HasReadCause};
 ghost use Rattle.cla_io.specs.InputFrame.{ReadsOn};
-ghost use Rattle.cla_pack_reader.specs.Segments.{GivesRow, GivesRows};
+ghost use Rattle.cla_pack_reader.specs.Segments.{IsOffsetState, GivesRow, GivesRows};
+ghost use Rattle.cla_pack_reader.specs.Walks.{IsState};
 
+use crate::bits::Marks;
 use crate::fields::number;
-use crate::owners::{Walk, fits_row, name_row};
+use crate::walk::{Walk, fits_row};
 use cla_io::{Files, Input};
 use cla_packed::{FieldName, PackFault};
 
-/// One offset of tuple `t` in the segment of `rows` rows from row `base` on.
+/// One offset of a tuple in the segment of `rows` rows from row `base` on. The answer is its row.
+#[inline(always)]
 fn offset_of<F: Files>(
     input: &mut Input<'_, F>,
-    owners: &mut [u32],
+    marks: &Marks,
     walk: Walk,
     group: u32,
-    t: u32,
     floor: u64,
     base: u32,
     rows: u32,
-) -> Result<Walk, PackFault>
-    requires within { base + rows ≤ length owners.old }
-    requires few { length owners.old < 2 ^ 32 }
-    ensures size { length owners.new ≡ length owners.old }
+) -> Result<u32, PackFault>
+    requires within { base + rows ≤ length marks.now }
+    requires few { length marks.now < 2 ^ 32 }
     ensures same_reference { input.new.files.ghost_name ≡ input.old.files.ghost_name }
     ensures frame { ReadsOn (F.state input.old.files.now) (F.state input.new.files.now) }
     ensures cause { HasReadCause (F.state input.old.files.now).read_faults (F.state input.new.files.now).read_faults
         result }
+    ensures below { IfOk result (λ row. row < length marks.now) }
     ensures exact { let start = places_of input.old.taken (F.state input.old.files.now) in
         let end = places_of input.new.taken (F.state input.new.files.now) in
-        let all = length owners.old in
-        (d size : ℕ) (earlier before : List (List ℕ)) (so_far : List ℕ) → base ≡ length before * size
+        let all = length marks.now in
+        (size : ℕ) (earlier before : List (List ℕ)) (so_far : List ℕ) → base ≡ length before * size
         → rows ≡ segment_rows size all (length before)
-        → IsState t d earlier (joined before ++ so_far) owners.old walk floor
-        → GivesRow t d earlier (joined before ++ so_far) owners.new floor result start end
+        → IsState earlier (joined before ++ so_far) marks.now walk floor
+        → GivesRow earlier (joined before ++ so_far) result start end
         (row_at size all group earlier before so_far) }
 {
     let at = input.at();
@@ -52,47 +53,55 @@ fn offset_of<F: Files>(
             at,
         });
     }
-    if !fits_row(owners, walk, t, floor, base + offset) {
+    if !fits_row(marks, walk, floor, base + offset) {
         return Err(PackFault::Field {
             group,
             field: FieldName::Offset,
             at,
         });
     }
-    Ok(name_row(owners, walk, t, base + offset))
+    Ok(base + offset)
 }
 
 /// The offsets of a segment, `n` of them.
 fn offsets_of<F: Files>(
     input: &mut Input<'_, F>,
-    owners: &mut [u32],
+    marks: &mut Marks,
+    places: &mut Vec<u32>,
     walk: Walk,
     group: u32,
-    t: u32,
     floor: u64,
     base: u32,
     rows: u32,
     n: u32,
 ) -> Result<Walk, PackFault>
-    requires within { base + rows ≤ length owners.old }
-    requires few { length owners.old < 2 ^ 32 }
-    ensures size { length owners.new ≡ length owners.old }
+    requires within { base + rows ≤ length marks.old }
+    requires few { length marks.old < 2 ^ 32 }
+    ensures size { length marks.new ≡ length marks.old }
     ensures same_reference { input.new.files.ghost_name ≡ input.old.files.ghost_name }
     ensures frame { ReadsOn (F.state input.old.files.now) (F.state input.new.files.now) }
     ensures cause { HasReadCause (F.state input.old.files.now).read_faults (F.state input.new.files.now).read_faults
         result }
     ensures exact { let start = places_of input.old.taken (F.state input.old.files.now) in
         let end = places_of input.new.taken (F.state input.new.files.now) in
-        let all = length owners.old in
-        (d size : ℕ) (earlier before : List (List ℕ)) → base ≡ length before * size
-        → rows ≡ segment_rows size all (length before) → IsState t d earlier (joined before) owners.old walk floor
-        → GivesRows t d earlier (joined before) owners.new floor result start end
+        let all = length marks.old in
+        (size : ℕ) (earlier before : List (List ℕ)) → base ≡ length before * size
+        → rows ≡ segment_rows size all (length before)
+        → IsOffsetState earlier (joined before) marks.old places.old.items walk floor
+        → GivesRows earlier (joined before) marks.new places.new.items floor result start end
         (list_at (λ left so_far. row_at size all group earlier before so_far) n []) }
 {
     let mut walk = walk;
     for _j in 0..n {
-        match offset_of(input, owners, walk, group, t, floor, base, rows) {
-            Ok(next) => walk = next,
+        match offset_of(input, marks, walk, group, floor, base, rows) {
+            Ok(row) => {
+                match places.push(row) {
+                    Ok(()) => (),
+                    Err(_) => return Err(PackFault::Memory),
+                }
+                marks.put(row);
+                walk = walk.past(row, row + 1);
+            }
             Err(fault) => return Err(fault),
         }
     }
@@ -102,29 +111,29 @@ fn offsets_of<F: Files>(
 /// The number of a segment's rows, and each of them. `last` says that no segment is behind it.
 pub(crate) fn segment_of<F: Files>(
     input: &mut Input<'_, F>,
-    owners: &mut [u32],
+    marks: &mut Marks,
+    places: &mut Vec<u32>,
     walk: Walk,
     group: u32,
-    t: u32,
     floor: u64,
     base: u32,
     rows: u32,
     last: bool,
 ) -> Result<Walk, PackFault>
-    requires within { base + rows ≤ length owners.old }
-    requires few { length owners.old < 2 ^ 32 }
-    ensures size { length owners.new ≡ length owners.old }
+    requires within { base + rows ≤ length marks.old }
+    requires few { length marks.old < 2 ^ 32 }
+    ensures size { length marks.new ≡ length marks.old }
     ensures same_reference { input.new.files.ghost_name ≡ input.old.files.ghost_name }
     ensures frame { ReadsOn (F.state input.old.files.now) (F.state input.new.files.now) }
     ensures cause { HasReadCause (F.state input.old.files.now).read_faults (F.state input.new.files.now).read_faults
         result }
     ensures exact { let start = places_of input.old.taken (F.state input.old.files.now) in
         let end = places_of input.new.taken (F.state input.new.files.now) in
-        let all = length owners.old in
-        (d size left : ℕ) (earlier before : List (List ℕ)) → base ≡ length before * size
+        let all = length marks.old in
+        (size left : ℕ) (earlier before : List (List ℕ)) → base ≡ length before * size
         → rows ≡ segment_rows size all (length before) → last ≡ not (nat_lt 0 left)
-        → IsState t d earlier (joined before) owners.old walk floor
-        → GivesRows t d earlier (joined before) owners.new floor result start end
+        → IsOffsetState earlier (joined before) marks.old places.old.items walk floor
+        → GivesRows earlier (joined before) marks.new places.new.items floor result start end
         (segment_at size all group earlier left before) }
 {
     let at = input.at();
@@ -146,7 +155,7 @@ pub(crate) fn segment_of<F: Files>(
             at,
         });
     }
-    offsets_of(input, owners, walk, group, t, floor, base, rows, n)
+    offsets_of(input, marks, places, walk, group, floor, base, rows, n)
 }
 
 // Whether a tuple would have no row at its last segment.

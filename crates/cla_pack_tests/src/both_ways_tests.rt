@@ -91,3 +91,22 @@ fn matrices_come_back(rt: HostRuntime) -> Result<(), Fail> {
     }
     Ok(())
 }
+
+// A column of 70,000 rows of which one in 613 has a number from 1 to 3, and the others 0.
+fn sparse_column(alloc: Global) -> Result<Dense<Entry>, Fail> {
+    let mut values = Vec::new(alloc);
+    for row in 0..70_000u32 {
+        let value = if row % 613 == 5 { 1 + row % 3 } else { 0 };
+        values.push(value as i64)?;
+    }
+    matrix(alloc, 70_000, 1, &values)
+}
+
+#[test]
+fn lists_over_segments_come_back(rt: HostRuntime) -> Result<(), Fail> {
+    let m = sparse_column(rt.alloc())?;
+    // (behind the magic, the rows, the columns and the groups stands the kind of the first group: lists)
+    assert_eq!(rt; packed(rt.alloc(), &m)?.get(20).copied(), Some(3));
+    assert_eq!(rt; comes_back(rt.alloc(), &m)?, true);
+    Ok(())
+}

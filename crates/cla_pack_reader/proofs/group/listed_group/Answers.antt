@@ -1,34 +1,27 @@
-use Rattle.std.proofs.Common.{subst, sym}
-use Rattle.cla_packed.specs.Bodies.{Body}
-use Rattle.cla_packed.specs.Rests.{listed_at}
-use Rattle.cla_pack_reader.specs.Bodies.{body_seen}
-use Rattle.cla_pack_reader.specs.Listings.{rows_at}
-use Rattle.cla_pack_reader.specs.Places.{places_of, Took}
-use Rattle.cla_pack_reader.proofs.GroupForms.{listed_good, codes_are, zero_fits, not_plain}
 use Rattle.cla_pack_reader.proofs.group.listed_group.Goals as goal
 
-pub from_body-requires-clause-kind : goal.from_body-requires-clause-kind
-from_body-requires-clause-kind g c = not_plain c.args.listing c.listed_kind.result c.listed_kind.ensures
+pub offset_group-requires-clause-cells : goal.offset_group-requires-clause-cells
+offset_group-requires-clause-cells g c = record {
+  a_row = c.requires.a_row;
+  a_column = c.requires.some;
+  few = c.requires.few;
+}
 
-pub from_body-requires-clause-codes : goal.from_body-requires-clause-codes
-from_body-requires-clause-codes g c =
-    let t0 = c.args.input.now.taken in
-    let s0 = g.F.Files.state c.args.input.now.files.now in
-    let t1 = c.listed_body.new.input.taken in
-    let s1 = g.F.Files.state c.listed_body.new.input.files.now in
-    let bits = g.N.Number.BITS in
-    let codes = c.in-Ok.body.codes.items in
-    let values = c.in-Ok.body.values.items in
-    codes_are g.N.Number.value bits c.args.rows c.args.width codes values c.requires.a_row c.requires.some
-    c.requires.few c.in-Ok.ensures.whole
-    (listed_good bits c.args.group c.args.rows c.args.width t0 t1 s0 s1
-    (body_seen g.N.Number.value c.args.width codes values) c.requires.a_row c.requires.most c.requires.some
-    c.args.listing (zero_fits bits) c.in-Ok.ensures.exact)
+pub run_group-requires-clause-cells : goal.run_group-requires-clause-cells
+run_group-requires-clause-cells g c = record {
+  a_row = c.requires.a_row;
+  a_column = c.requires.some;
+  few = c.requires.few;
+}
 
-pub returns-in-Ok-from_body-clause-exact : goal.returns-in-Ok-from_body-clause-exact
-returns-in-Ok-from_body-clause-exact g c =
-    let b = places_of c.args.input.now.taken (g.F.Files.state c.args.input.now.files.now) in
-    let a = places_of c.listed_body.new.input.taken (g.F.Files.state c.listed_body.new.input.files.now) in
-    let read = listed_at (rows_at c.args.listing c.args.rows c.args.group) 8 g.N.Number.BITS c.args.group c.args.rows
-    c.args.width in
-    subst (λ (body : Body). Took b a read body) (sym c.in-Ok-from_body.ensures.body) c.in-Ok.ensures.exact
+pub returns-in-Offsets-clause-form : goal.returns-in-Offsets-clause-form
+returns-in-Offsets-clause-form g c = rw c.in-Offsets.is c.offset_group.ensures.form
+
+pub returns-in-Runs-clause-form : goal.returns-in-Runs-clause-form
+returns-in-Runs-clause-form g c = rw c.in-Runs.is c.run_group.ensures.form
+
+pub returns-in-Offsets-clause-exact : goal.returns-in-Offsets-clause-exact
+returns-in-Offsets-clause-exact g c = rw c.in-Offsets.is c.offset_group.ensures.exact
+
+pub returns-in-Runs-clause-exact : goal.returns-in-Runs-clause-exact
+returns-in-Runs-clause-exact g c = rw c.in-Runs.is c.run_group.ensures.exact

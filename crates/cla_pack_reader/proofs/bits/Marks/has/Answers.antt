@@ -15,11 +15,11 @@ pub returns : goal.returns
 returns c =
     let words = c.self.inside.words.items in
     let len = c.self.inside.len in
-    let column = c.args.column in
+    let item = c.args.item in
     let same = ap (λ (l : List Bool). length l) c.self.view_is in
-    let lt : column < len = omega (arith, c.requires, marks_count words len, same) in
-    let place : column / 64 < length words = omega (arith, lt, c.self.invariant) in
+    let lt : item < len = omega (arith, c.requires, marks_count words len, same) in
+    let place : item / 64 < length words = omega (arith, lt, c.self.invariant) in
     c.has_bit.ensures
-    ∙ ap (λ (w : ℕ). bit_at w (column % 64) == 1)
-    (get_or_read words (column / 64) c.index.result.now place c.index.ensures 0)
-    ∙ sym (mark_at words len column lt) ∙ ap (λ (l : List Bool). get_or l column false) c.self.view_is
+    ∙ ap (λ (w : ℕ). bit_at w (item % 64) == 1)
+    (get_or_read words (item / 64) c.index.result.now place c.index.ensures 0)
+    ∙ sym (mark_at words len item lt) ∙ ap (λ (l : List Bool). get_or l item false) c.self.view_is

@@ -22,11 +22,11 @@ pub returns : goal.returns
 returns c =
     let words = c.self.inside.words.items in
     let len = c.self.inside.len in
-    let column = c.args.column in
+    let item = c.args.item in
     let same = ap (λ (l : List Bool). length l) c.self.view_is in
-    let lt : column < len = omega (arith, c.requires, marks_count words len, same) in
-    let place : column / 64 < length words = omega (arith, lt, c.self.invariant) in
-    let word = get_or_read words (column / 64) c.index.result.now place c.index.ensures 0 in
-    one_marked words len column c.with_bit.result c.self.invariant lt c.with_bit.ensures.set
+    let lt : item < len = omega (arith, c.requires, marks_count words len, same) in
+    let place : item / 64 < length words = omega (arith, lt, c.self.invariant) in
+    let word = get_or_read words (item / 64) c.index.result.now place c.index.ensures 0 in
+    one_marked words len item c.with_bit.result c.self.invariant lt c.with_bit.ensures.set
     (λ i other. c.with_bit.ensures.others i other ∙ ap (λ (w : ℕ). bit_at w i) word)
-    ∙ ap (λ (l : List Bool). set l column true) c.self.view_is
+    ∙ ap (λ (l : List Bool). set l item true) c.self.view_is
