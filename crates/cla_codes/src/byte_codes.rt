@@ -86,9 +86,10 @@ impl<const W: usize> ByteCodes<W> {
         requires within { first + length into.old ≤ length self.now }
         ensures { into.new ≡ take (length into.old) (drop first self.now) }
     {
-        let bytes = &self.bytes;
-        for i in 0..into.len() {
-            into[i] = read_code::<W>(bytes, first + i as u32);
+        let bytes = self.bytes.as_slice();
+        let count = into.len() as u32;
+        for i in 0..count {
+            into[i as usize] = read_code::<W>(bytes, first + i);
         }
     }
 

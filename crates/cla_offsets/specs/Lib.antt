@@ -1,4 +1,5 @@
 pub mod Rows
+pub mod RowLists
 pub mod Segments
 pub mod Walks
 pub mod Members

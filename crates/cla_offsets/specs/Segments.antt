@@ -1,13 +1,13 @@
 -- Rows that are kept as lists of offsets, by segments of rows (PVLDB 9(12), section 3, offset-list encoding).
 use Rattle.std.specs.Prelude.{◌≡◌, ℕ, suc, zero, ◌+◌, ◌-◌, ◌*◌, ◌/◌, ◌%◌, ◌<◌, ◌≤◌, List, [], ◌∷◌, ◌++◌}
-use Rattle.std.specs.Prelude.{length, map, take, drop, ◌==◌, if◌then◌else◌}
+use Rattle.std.specs.Prelude.{length, map, take, drop, ◌==◌, not, if◌then◌else◌}
 use Rattle.std.specs.List.{range_with_len, list_any}
 use Rattle.cla_spec.specs.Matrix.{most_cells}
 use Rattle.cla_rows.specs.declared.row_counts.Occurrences.{Occurrences}
 use Rattle.cla_rows.specs.Chains.{lists_to, begins_to}
 use Rattle.cla_layout.specs.Groups.{code_of}
 use Rattle.cla_rows.specs.Counted.{AreCounted}
-use Rattle.cla_layout.specs.Listed.{rows_of}
+use Rattle.cla_layout.specs.Listed.{rows_of, rows_where}
 use Rattle.cla_offsets.specs.declared.lists.Lists.{Lists}
 use Rattle.cla_offsets.specs.Rows.{OffsetsOf}
 
@@ -30,6 +30,14 @@ segment_offsets codes k s = rows_of (segment_of codes s) k
 -- the rows that are listed of code k: those that have it, and none of the rest
 abbrev pub listed : List ℕ → ℕ → ℕ → List ℕ
 listed codes rest k = if k == rest then [] else rows_of codes k
+
+-- the rows that are listed of all codes, in rising order, and the codes that they have
+abbrev pub listed_rows : List ℕ → ℕ → List ℕ
+listed_rows codes rest = rows_where (λ i. not (code_of codes i == rest)) (length codes)
+
+pub record AreListedRows (codes : List ℕ) (rest : ℕ) (rows keys : List ℕ) : Type 0 where
+  pub rows_are : rows ≡ listed_rows codes rest
+  pub keys_are : keys ≡ map (code_of codes) rows
 
 -- the list of each code in segment s
 abbrev pub list_of : OffsetsOf → ℕ → ℕ → List ℕ

@@ -1,13 +1,7 @@
 -- Walks over the rows of a segment.
 use Rattle.std.specs.Prelude.{◌≡◌, ℕ, ℤ, ◌+◌, ◌<◌, ◌≤◌, List, length, ◌==◌, if◌then◌else◌}
 use Rattle.std.specs.List.{list_any}
-use Rattle.cla_rows.specs.declared.grouped.Grouped.{Grouped}
 use Rattle.cla_layout.specs.Groups.{at, code_of, AreGathered}
-use Rattle.cla_rows.specs.Grouped.{AreGrouped}
-
--- the rows of each code are grouped
-abbrev pub AreRowsByCode : ℕ → List ℕ → Grouped → Type 0
-AreRowsByCode count codes g = AreGrouped count codes g.starts.items g.places.items
 
 -- the code of row j once these rows have been given a code
 abbrev pub code_given : ℕ → List ℕ → List ℕ → ℕ → ℕ

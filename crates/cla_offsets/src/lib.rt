@@ -2,6 +2,7 @@
 #![tactic(auto)]
 
 mod group;
+mod listed;
 mod lists;
 mod offsets;
 mod owned;

@@ -1,14 +1,14 @@
 //! Lists of offsets, segment by segment and code by code.
 
-ghost use Rattle.std.specs.Prelude.{◌≡◌, ◌≤◌, ◌<◌, ◌+◌, ◌*◌, ◌++◌, ℕ, List, length, IfOk};
+ghost use Rattle.std.specs.Prelude.{◌≡◌, ◌≤◌, ◌<◌, ◌+◌, ◌*◌, ℕ, length, IfOk};
 ghost use Rattle.cla_spec.specs.Matrix.{most_cells};
 ghost use Rattle.cla_layout.specs.Groups.{code_of};
 ghost use Rattle.cla_offsets.specs.Rows.{OffsetsOf};
-ghost use Rattle.cla_offsets.specs.Segments.{segment_rows, segments_of, segment_of, listed, AreLists, AreAdded};
-ghost use Rattle.cla_offsets.specs.Walks.{AreRowsByCode};
+ghost use Rattle.cla_offsets.specs.Segments.{segment_rows, segments_of, segment_of, AreLists, AreAdded};
 
+use crate::listed::{listed_rows, push_offsets};
 use cla_num::Memory;
-use cla_rows::{Grouped, group_places};
+use cla_rows::group_places;
 use std::alloc::Global;
 
 /// How many rows a segment has. The last one may have fewer.
@@ -57,13 +57,14 @@ impl Lists {
         requires few { length self.old.offsets.items ≤ most_cells }
         ensures { IfOk result (λ _. AreAdded codes.now tuples rest self.old self.new) }
     {
-        let grouped = group_places(alloc, codes, tuples)?;
+        let listed = listed_rows(alloc, codes, rest)?;
+        let grouped = group_places(alloc, &listed.keys, tuples)?;
         let base = self.offsets.len();
         self.bases.push(base as u32)?;
         for k in 0..tuples {
             let start = self.next_start(base);
             self.starts.push(start)?;
-            push_offsets(rows_listed(&grouped, k, rest), &mut self.offsets)?;
+            push_offsets(&listed.rows, grouped.places_of(k), &mut self.offsets)?;
         }
         let end = self.next_start(base);
         self.starts.push(end)?;
@@ -87,25 +88,6 @@ impl Lists {
     {
         (self.offsets.len() - base) as u16
     }
-}
-
-// The rows of a code, or none where it is the rest.
-fn rows_listed(grouped: &Grouped, k: u32, rest: u32) -> &[u32]
-    requires { (n : ℕ) × (codes : List ℕ) × AreRowsByCode n codes grouped.now × (k < n) }
-    ensures { (n : ℕ) (codes : List ℕ) → AreRowsByCode n codes grouped.now → k < n → result.now ≡ listed codes rest k }
-{
-    if k == rest { &[] } else { grouped.places_of(k) }
-}
-
-// Appends rows of a segment, counted from its first row.
-fn push_offsets(rows: &[u32], offsets: &mut Vec<u16>) -> Result<(), Memory>
-    requires within { (n : ℕ) → n < length rows.now → code_of rows.now n < segment_rows }
-    ensures { IfOk result (λ _. offsets.new.items ≡ offsets.old.items ++ rows.now) }
-{
-    for row in rows {
-        offsets.push(*row as u16)?;
-    }
-    Ok(())
 }
 
 // How many segments so many rows have.

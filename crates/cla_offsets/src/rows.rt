@@ -8,13 +8,14 @@ ghost use Rattle.cla_offsets.specs.Segments.{segment_rows, segment_of, list_of, 
 ghost use Rattle.cla_offsets.specs.Walks.{MayScatter, MayBeJoined, AreJoined};
 ghost use Rattle.cla_layout.specs.Groups.{AreGathered};
 
+use crate::listed::counted_by_code;
 use crate::lists::{Lists, SEGMENT_ROWS, segment_count, segment_in};
 use crate::walks::{
     fill_codes, gather_codes, give_code, has_offset, join_codes, join_list, push_part,
 };
 use cla_group::Join;
 use cla_num::{Memory, Number, Wide};
-use cla_rows::{Occurrences, counted};
+use cla_rows::Occurrences;
 use std::alloc::Global;
 use std::marker::Model;
 
@@ -54,7 +55,7 @@ impl OffsetRows {
         requires few_tuples { tuples ≤ most_cells }
         ensures { IfOk result (λ r. r ≡ record { codes = codes.now; tuples = tuples; rest = rest }) }
     {
-        let occurrences = counted(alloc, codes, tuples)?;
+        let occurrences = counted_by_code(alloc, codes, tuples, rest)?;
         let rows = codes.len() as u32;
         let segments = segment_count(rows);
         let starts = segments as usize * (tuples as usize + 1);

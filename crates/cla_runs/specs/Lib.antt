@@ -1,4 +1,5 @@
 pub mod RunLists
 pub mod Rows
+pub mod KeyedRuns
 pub mod Walks
 pub mod Members

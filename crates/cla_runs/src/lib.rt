@@ -6,5 +6,6 @@ mod run_rows;
 mod runs;
 mod walks;
 
+pub use run_list::KeyedRun;
 pub use run_rows::{Run, RunRows};
 pub use runs::Runs;

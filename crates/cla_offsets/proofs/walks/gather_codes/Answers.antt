@@ -1,4 +1,4 @@
-use Rattle.std.proofs.Common.{◌≡◌, ◌+◌, ℕ, length, map, ap, sym, ◌∙◌, arith}
+use Rattle.std.proofs.Common.{◌≡◌, ◌+◌, ℕ, length, map, ap, ◌∙◌, arith}
 use Rattle.cla_layout.specs.Groups.{gathered_to}
 use Rattle.cla_offsets.proofs.walks.gather_codes.Goals as goal
 

@@ -1,9 +1,12 @@
-use Rattle.std.proofs.Common.{rules, ◌≡◌, ◌+◌, ◌++◌, ◌∷◌, ◌∙◌, ℕ, List, [], length, ap, sym, arith}
+use Rattle.std.proofs.Common.{rules, ◌≡◌, ◌+◌, ◌++◌, ◌∷◌, ◌∙◌, ℕ, List, [], length, map, ap, sym, ◌<◌, arith}
 use Rattle.std.proofs.Common.{append_assoc, append-nil, length-append}
 use Rattle.cla_offsets.specs.Segments.{listed}
 use Rattle.cla_rows.specs.Chains.{lists_to, begins_to}
 use Rattle.cla_rows.proofs.Chains.{lists_none, lists_more, begins_more}
-use Rattle.cla_offsets.proofs.ListedRows.{are_listed, listed_few}
+use Rattle.cla_layout.specs.Groups.{code_of}
+use Rattle.cla_layout.specs.Listed.{rows_of}
+use Rattle.cla_offsets.proofs.ListedRows.{listed_few}
+use Rattle.cla_offsets.proofs.ListedKeys.{keys_size, key_is, keys_few, row_within, place_within, listed_by_key}
 use Rattle.cla_offsets.proofs.lists.Lists.add_segment.Goals as goal
 
 pub loop-k-init : goal.loop-k-init
@@ -33,12 +36,46 @@ next_start-start-requires c =
       );
     }
 
-pub push_offsets-requires : goal.push_offsets-requires
-push_offsets-requires c =
+pub group_places-requires-clause-below : goal.group_places-requires-clause-below
+group_places-requires-clause-below c =
     let codes = c.args.codes.now in
-    let list = c.rows_listed.ensures c.args.tuples codes c.in_ok-grouped.ensures c.loop-k-test.true in
-    let are = are_listed codes c.args.rest c.loop-k.k c.rows_listed.result.now list in
-    record { within = λ n there. omega (arith, are.within n there, c.requires.rows) }
+    let rows = c.in_ok-listed.listed.rows.items in
+    let keys = c.in_ok-listed.listed.keys.items in
+    let are = c.in_ok-listed.ensures in
+    rw c.deref.ensures.value (λ m there.
+    (let row : m < length rows = omega (arith, there, keys_size codes c.args.rest rows keys are) in
+    omega (
+      arith,
+      key_is codes c.args.rest rows keys are m there,
+      c.requires.below (code_of rows m) (row_within codes c.args.rest rows keys are m row),
+    )))
+
+pub group_places-requires-clause-few : goal.group_places-requires-clause-few
+group_places-requires-clause-few c =
+    let listed = c.in_ok-listed.listed in
+    rw c.deref.ensures.value (omega (
+      arith,
+      keys_few c.args.codes.now c.args.rest listed.rows.items listed.keys.items c.in_ok-listed.ensures,
+      c.requires.rows,
+    ))
+
+pub push_offsets-requires-clause-places : goal.push_offsets-requires-clause-places
+push_offsets-requires-clause-places c =
+    let k = c.loop-k.k in
+    let listed = c.in_ok-listed.listed in
+    let places : c.places_of.result.now ≡ rows_of listed.keys.items k =
+    c.places_of.ensures c.args.tuples c.deref.result.now c.in_ok-grouped.ensures c.loop-k-test.true
+    ∙ ap (λ (xs : List ℕ). rows_of xs k) c.deref.ensures.value in
+    rw (c.deref-in-loop-k.ensures.value, places) (place_within c.args.codes.now c.args.rest listed.rows.items
+    listed.keys.items c.in_ok-listed.ensures k)
+
+pub push_offsets-requires-clause-within : goal.push_offsets-requires-clause-within
+push_offsets-requires-clause-within c =
+    let listed = c.in_ok-listed.listed in
+    rw c.deref-in-loop-k.ensures.value (λ n there.
+    (let row = row_within c.args.codes.now c.args.rest listed.rows.items listed.keys.items c.in_ok-listed.ensures n
+    there in
+    omega (arith, row, c.requires.rows)))
 
 pub loop-k-preserved : goal.loop-k-preserved
 loop-k-preserved c =
@@ -48,8 +85,15 @@ loop-k-preserved c =
     let size = ap length c.loop-k.invariant.offsets ∙ length-append old.offsets.items (lists_to list k) in
     let start : c.next_start-start.result ≡ length (lists_to list k) =
     omega (arith, c.next_start-start.ensures, c.len-base.ensures, size) in
-    let more : c.rows_listed.result.now ≡ list k =
-    c.rows_listed.ensures c.args.tuples c.args.codes.now c.in_ok-grouped.ensures c.loop-k-test.true in
+    let listed = c.in_ok-listed.listed in
+    let added = map (code_of c.deref-in-loop-k.result.now) c.places_of.result.now in
+    let places : c.places_of.result.now ≡ rows_of listed.keys.items k =
+    c.places_of.ensures c.args.tuples c.deref.result.now c.in_ok-grouped.ensures c.loop-k-test.true
+    ∙ ap (λ (xs : List ℕ). rows_of xs k) c.deref.ensures.value in
+    let more : added ≡ list k =
+    ap (λ (xs : List ℕ). map (code_of xs) c.places_of.result.now) c.deref-in-loop-k.ensures.value
+    ∙ ap (map (code_of listed.rows.items)) places
+    ∙ sym (listed_by_key c.args.codes.now c.args.rest k listed.rows.items listed.keys.items c.in_ok-listed.ensures) in
     record {
       bases = c.loop-k.invariant.bases;
       starts =
@@ -59,8 +103,8 @@ loop-k-preserved c =
           ∙ ap (λ (n : ℕ). old.starts.items ++ (begins_to list k ++ n ∷ [])) start
           ∙ ap (λ (xs : List ℕ). old.starts.items ++ xs) (sym (begins_more list k));
       offsets =
-          c.in_ok-push_offsets.ensures ∙ ap (λ (xs : List ℕ). xs ++ c.rows_listed.result.now) c.loop-k.invariant.offsets
-          ∙ append_assoc old.offsets.items (lists_to list k) c.rows_listed.result.now
+          c.in_ok-push_offsets.ensures ∙ ap (λ (xs : List ℕ). xs ++ added) c.loop-k.invariant.offsets
+          ∙ append_assoc old.offsets.items (lists_to list k) added
           ∙ ap (λ (xs : List ℕ). old.offsets.items ++ (lists_to list k ++ xs)) more
           ∙ ap (λ (xs : List ℕ). old.offsets.items ++ xs) (sym (lists_more list k));
     }

@@ -1,5 +1,4 @@
-use Rattle.std.proofs.Common.{true, false, ◌≡◌, ◌+◌, ◌-◌, ◌/◌, ◌%◌, ◌∙◌, Bool, ℕ, List, cond, eqb, refl, ap, sym, arith}
-use Rattle.std.specs.List.{list_any}
+use Rattle.std.proofs.Common.{true, false, ◌≡◌, ◌-◌, ◌/◌, ◌%◌, ◌∙◌, ℕ, refl, ap, sym, arith}
 use Rattle.cla_offsets.specs.Segments.{segment_rows, segment_of, list_of, code_by}
 use Rattle.cla_offsets.proofs.ListedRows.{are_listed}
 use Rattle.cla_offsets.proofs.ToldCodes.{code_by_none, told_step, row_told}
