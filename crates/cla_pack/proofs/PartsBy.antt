@@ -104,11 +104,11 @@ tuples_same m (c ∷ columns) i j h =
 abbrev first_rows : Matrix → List ℕ → List ℕ
 first_rows m columns = first_rows_by (same_tuple m columns) m.rows
 
-distinct_count : (m : Matrix) (columns : List ℕ) → length (distinct_tuples m columns) ≡ (tuples_in m columns).distinct
+pub distinct_count : (m : Matrix) (columns : List ℕ) → length (distinct_tuples m columns) ≡ (tuples_in m columns).distinct
 distinct_count m columns = length-map (first_rows m columns) (tuple_in_row m columns)
 
 -- the code of a row is the place of the first row that is the same
-distinct_tuple : (m : Matrix) (columns : List ℕ) (i : ℕ) → i < m.rows
+pub distinct_tuple : (m : Matrix) (columns : List ℕ) (i : ℕ) → i < m.rows
     → get_or (distinct_tuples m columns) (code_of (tuples_in m columns).codes i) [] ≡ tuple_in_row m columns i
 distinct_tuple m columns i row =
     let same = same_tuple m columns in

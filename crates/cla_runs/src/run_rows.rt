@@ -169,6 +169,13 @@ impl RunRows {
         Ok(codes)
     }
 
+    /// How many maximal runs all codes but the rest have.
+    pub fn count(&self) -> u32
+        ensures { result ≡ length (listed_begins self.now.codes self.now.rest) }
+    {
+        self.runs.len() as u32
+    }
+
     /// How many maximal runs code k has, by a pass over all runs.
     pub fn run_count(&self, k: u32) -> u32
         requires { k ≡ self.now.rest → ⊥ }

@@ -3,3 +3,4 @@ pub mod KeptLaws
 pub mod SizeLaws
 pub mod CutLaws
 pub mod StatsLaws
+pub mod KeptTuples
