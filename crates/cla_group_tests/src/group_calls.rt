@@ -1,6 +1,6 @@
 //! The calls of groups, at any type, against what the group is expected to be.
 
-ghost use Rattle.std.specs.Prelude.{◌≡◌};
+ghost use Rattle.std.specs.Prelude.{◌≡◌, ◌<◌, length};
 
 use crate::checked::wides;
 use crate::expected::Expected;
@@ -13,7 +13,7 @@ use std::process::Abort;
 use std::test::Fail;
 
 /// The ways to join a row's place with the part of the row's code.
-#[derive(Clone, Copy, Debug)]
+#[derive(Clone, Copy)]
 enum Joined {
     Sum,
     Least,
@@ -57,11 +57,19 @@ fn all_in_turn(alloc: Global, of: &[i64], count: usize) -> Result<Vec<i64>, Fail
 fn values_of<G: Group<Entry>>(alloc: Global, g: &G) -> Result<Vec<Entry>, Fail> {
     let mut values = Vec::new(alloc);
     for k in 0..g.tuples() {
-        for c in 0..g.width() {
-            values.push(g.value(k, c))?;
-        }
+        push_tuple(g, k, &mut values)?;
     }
     Ok(values)
+}
+
+// Appends the values of tuple k.
+fn push_tuple<G: Group<Entry>>(g: &G, k: u32, values: &mut Vec<Entry>) -> Result<(), Fail>
+    requires { k < length (G.dictionary g.now) }
+{
+    for c in 0..g.width() {
+        values.push(g.value(k, c))?;
+    }
+    Ok(())
 }
 
 // The code of each row, asked for one by one.
@@ -146,6 +154,45 @@ fn expected_sums(alloc: Global, expected: &Expected) -> Result<Vec<i64>, Fail> {
     Ok(sums)
 }
 
+// Whether the group has as many rows, columns and tuples as are expected.
+fn shape_is<G: Group<Entry>>(g: &G, expected: &Expected) -> bool {
+    g.rows() as usize == expected.codes.len()
+        && g.width() == expected.width
+        && g.tuples() == expected.tuples
+}
+
+// Whether its values are those expected.
+fn values_are<G: Group<Entry>>(alloc: Global, g: &G, expected: &Expected) -> Result<bool, Fail> {
+    Ok(values_of(alloc, g)? == numbers(alloc, &expected.values)?)
+}
+
+// Whether the codes of its rows are, one by one and all at once.
+fn codes_are<G: Group<Entry>>(alloc: Global, g: &G, expected: &Expected) -> Result<bool, Fail> {
+    Ok(codes_at(alloc, g)? == expected.codes && codes_of(alloc, g)? == expected.codes)
+}
+
+// Whether the counts and first rows of its tuples are.
+fn counts_are<G: Group<Entry>>(alloc: Global, g: &G, expected: &Expected) -> Result<bool, Fail> {
+    Ok(counts_of(alloc, g)? == expected_counts(alloc, expected)?)
+}
+
+// Whether each row's place is joined as expected.
+fn joined_is<G: Group<Entry>>(
+    alloc: Global,
+    g: &G,
+    expected: &Expected,
+    join: Joined,
+) -> Result<bool, Fail> {
+    let joined = expected_joined(alloc, expected, join)?;
+    Ok(joined_by(alloc, g, join)? == wides(alloc, &joined)?)
+}
+
+// Whether its rows' items are added up as expected.
+fn gathered_is<G: Group<Entry>>(alloc: Global, g: &G, expected: &Expected) -> Result<bool, Fail> {
+    let sums = expected_sums(alloc, expected)?;
+    Ok(gathered_by(alloc, g)? == wides(alloc, &sums)?)
+}
+
 /// Each call of a group gives what is expected.
 pub(crate) fn group_calls<G: Group<Entry>>(
     rt: &impl Abort,
@@ -153,28 +200,50 @@ pub(crate) fn group_calls<G: Group<Entry>>(
     g: &G,
     expected: &Expected,
 ) -> Result<(), Fail> {
-    assert_eq!(rt;
-        (g.rows() as usize, g.width()),
-        (expected.codes.len(), expected.width)
-    );
-    assert_eq!(rt; g.tuples(), expected.tuples);
-    assert_eq!(rt; values_of(alloc, g)?, numbers(alloc, &expected.values)?);
-    assert_eq!(rt; codes_at(alloc, g)?, expected.codes);
-    assert_eq!(rt; codes_of(alloc, g)?, expected.codes);
-    assert_eq!(rt; counts_of(alloc, g)?, expected_counts(alloc, expected)?);
-    for join in [Joined::Sum, Joined::Least, Joined::Greatest] {
-        let joined = expected_joined(alloc, expected, join)?;
-        assert_eq!(rt;
-            joined_by(alloc, g, join)?,
-            wides(alloc, &joined)?,
-            "{join:?}"
-        );
+    for (call, gives) in [
+        ("the shape", shape_is(g, expected)),
+        ("value", values_are(alloc, g, expected)?),
+        ("code_at or read_codes", codes_are(alloc, g, expected)?),
+        ("occurrences or first_row", counts_are(alloc, g, expected)?),
+        ("scatter", joined_is(alloc, g, expected, Joined::Sum)?),
+        (
+            "scatter_least",
+            joined_is(alloc, g, expected, Joined::Least)?,
+        ),
+        (
+            "scatter_greatest",
+            joined_is(alloc, g, expected, Joined::Greatest)?,
+        ),
+        ("gather", gathered_is(alloc, g, expected)?),
+    ] {
+        assert!(rt; gives, "{call}");
     }
-    assert_eq!(rt;
-        gathered_by(alloc, g)?,
-        wides(alloc, &expected_sums(alloc, expected)?)?
-    );
     Ok(())
+}
+
+// The group of the rows from row a to before row b.
+fn rows_between<G: Owned<Entry>>(alloc: Global, g: &G, a: u32, b: u32) -> Result<G, Fail> {
+    if a >= b || b > g.rows() {
+        return Err(Fail::new("no such rows"));
+    }
+    Ok(g.slice_rows(alloc, a, b)?)
+}
+
+// The group of the column in this place.
+fn column_in<G: Owned<Entry>>(alloc: Global, g: &G, place: u32) -> Result<G, Fail> {
+    if place >= g.width() {
+        return Err(Fail::new("no such column"));
+    }
+    Ok(g.project(alloc, &[place])?)
+}
+
+// The group with other values.
+fn with_values<G: Owned<Entry>>(alloc: Global, g: &G, values: &[i64]) -> Result<G, Fail> {
+    let values = numbers(alloc, values)?;
+    if values.len() != g.tuples() as usize * g.width() as usize {
+        return Err(Fail::new("half a tuple"));
+    }
+    Ok(g.with_values(alloc, values)?)
 }
 
 /// Each call on groups that are made of a group gives what is expected: of the rows from row a to before
@@ -187,21 +256,14 @@ pub(crate) fn owned_calls<G: Owned<Entry> + Drop>(
     a: u32,
     b: u32,
 ) -> Result<(), Fail> {
-    if a >= b || b > g.rows() || g.width() == 0 {
-        return Err(Fail::new("no such rows"));
-    }
-    let slice = g.slice_rows(alloc, a, b)?;
+    let slice = rows_between(alloc, g, a, b)?;
     group_calls(rt, alloc, &slice, &expected.between(alloc, a, b)?)?;
 
-    let place = g.width() - 1;
-    let last = g.project(alloc, &[place])?;
+    let place = expected.width.saturating_sub(1);
+    let last = column_in(alloc, g, place)?;
     group_calls(rt, alloc, &last, &expected.in_place(alloc, place)?)?;
 
     let expected = expected.with_values_from(alloc, -25)?;
-    let values = numbers(alloc, &expected.values)?;
-    if values.len() != g.tuples() as usize * g.width() as usize {
-        return Err(Fail::new("half a tuple"));
-    }
-    let other = g.with_values(alloc, values)?;
+    let other = with_values(alloc, g, &expected.values)?;
     group_calls(rt, alloc, &other, &expected)
 }

@@ -70,7 +70,7 @@ fn few_rows_and_rows_about_a_segment(rt: HostRuntime) -> Result<(), Fail> {
     for kind in KINDS {
         for rows in [1, 2, 3, 32_767, 32_768, 32_769] {
             let expected = Expected::last_alone(alloc, rows)?;
-            any_calls(&rt, alloc, kind, expected, rows - 1, rows)?;
+            any_calls(&rt, alloc, kind, expected, rows.saturating_sub(1), rows)?;
         }
     }
     Ok(())
@@ -94,19 +94,29 @@ fn code_bytes(g: &AnyGroup<Entry>) -> usize {
     }
 }
 
+// How many tuples, the bytes that each code takes, and whether a tuple of zeros is among them.
+const MANY: [(u32, usize, bool); 5] = [
+    (256, 1, true),
+    (257, 2, false),
+    (65_536, 2, true),
+    (65_537, 4, false),
+    (70_000, 4, true),
+];
+
+// How many bytes the codes of so many tuples take.
+fn bytes_of_many(alloc: Global, tuples: u32, with_zeros: bool) -> Result<usize, Fail> {
+    Ok(code_bytes(&many(alloc, tuples, with_zeros)?.group(alloc, Kind::Codes)?))
+}
+
 #[test]
 fn dictionaries_of_many_tuples(rt: HostRuntime) -> Result<(), Fail> {
     let alloc = rt.alloc();
-    for (tuples, bytes, with_zeros) in [
-        (256, 1, true),
-        (257, 2, false),
-        (65_536, 2, true),
-        (65_537, 4, false),
-        (70_000, 4, true),
-    ] {
+    for (tuples, bytes, with_zeros) in MANY {
+        assert!(rt;
+            bytes_of_many(alloc, tuples, with_zeros)? == bytes,
+            "{tuples} tuples"
+        );
         let expected = many(alloc, tuples, with_zeros)?;
-        let g = expected.group(alloc, Kind::Codes)?;
-        assert_eq!(rt; code_bytes(&g), bytes, "{tuples} tuples");
         any_calls(&rt, alloc, Kind::Codes, expected, 1, tuples)?;
     }
     for kind in [Kind::Plain, Kind::Offsets, Kind::Runs] {
@@ -115,41 +125,69 @@ fn dictionaries_of_many_tuples(rt: HostRuntime) -> Result<(), Fail> {
     Ok(())
 }
 
-// The bytes of the last row's code, and of the codes of so many tuples in W bytes each.
-fn bytes_calls<const W: usize>(
-    rt: &impl Abort,
+// The code of the last row.
+fn last_code<G: Group<Entry>>(g: &G) -> Option<u32> {
+    let last = g.rows().checked_sub(1)?;
+    Some(g.code_at(last))
+}
+
+// Whether the codes of so many tuples take W bytes each, and end in these, which are those of the last row.
+fn codes_end_in<const W: usize>(
     alloc: Global,
     most: usize,
     tuples: u32,
     last: &[u8],
-) -> Result<(), Fail>
+) -> Result<bool, Fail>
     requires { FitsWidth W most }
 {
     let expected = Expected::in_turn(alloc, 1, tuples, 1, tuples, -20)?;
     let g = codes_in_bytes::<W>(alloc, most, 1, &expected.codes, &expected.values)?;
-    assert_eq!(rt; g.bytes().len(), tuples as usize * W);
-    assert_eq!(rt;
-        g.bytes()
-            .get(g.bytes().len().saturating_sub(W)..)
-            .ok_or("bytes")?,
-        last
-    );
-    assert!(rt; tuples <= g.rows() && 0 < tuples);
-    assert_eq!(rt; g.code_at(tuples - 1), tuples - 1);
+    Ok(
+        g.bytes().len() == W.saturating_mul(tuples as usize)
+            && last.len() == W
+            && g.bytes().ends_with(last)
+            && g.rows() == tuples
+            && last_code(&g) == tuples.checked_sub(1),
+    )
+}
+
+// How many tuples, and the bytes of the last row's code.
+type Ending = (u32, &'static [u8]);
+
+const ONE_BYTE: [Ending; 1] = [(256, &[255])];
+
+const TWO_BYTES: [Ending; 3] = [(256, &[255, 0]), (257, &[0, 1]), (65_536, &[255, 255])];
+
+const FOUR_BYTES: [Ending; 4] = [
+    (256, &[255, 0, 0, 0]),
+    (257, &[0, 1, 0, 0]),
+    (65_536, &[255, 255, 0, 0]),
+    (65_537, &[0, 0, 1, 0]),
+];
+
+// The codes of each of these take W bytes each, and end so.
+fn bytes_calls<const W: usize>(
+    rt: &impl Abort,
+    alloc: Global,
+    most: usize,
+    endings: &[Ending],
+) -> Result<(), Fail>
+    requires { FitsWidth W most }
+{
+    for (tuples, last) in endings {
+        assert!(rt;
+            codes_end_in::<W>(alloc, most, *tuples, last)?,
+            "{tuples} tuples in {W} bytes each"
+        );
+    }
     Ok(())
 }
 
 #[test]
 fn bytes_of_codes(rt: HostRuntime) -> Result<(), Fail> {
-    let alloc = rt.alloc();
-    bytes_calls::<1>(&rt, alloc, 256, 256, &[255])?;
-    bytes_calls::<2>(&rt, alloc, 65_536, 256, &[255, 0])?;
-    bytes_calls::<2>(&rt, alloc, 65_536, 257, &[0, 1])?;
-    bytes_calls::<2>(&rt, alloc, 65_536, 65_536, &[255, 255])?;
-    bytes_calls::<4>(&rt, alloc, 70_000, 256, &[255, 0, 0, 0])?;
-    bytes_calls::<4>(&rt, alloc, 70_000, 257, &[0, 1, 0, 0])?;
-    bytes_calls::<4>(&rt, alloc, 70_000, 65_536, &[255, 255, 0, 0])?;
-    bytes_calls::<4>(&rt, alloc, 70_000, 65_537, &[0, 0, 1, 0])
+    bytes_calls::<1>(&rt, rt.alloc(), 256, &ONE_BYTE)?;
+    bytes_calls::<2>(&rt, rt.alloc(), 65_536, &TWO_BYTES)?;
+    bytes_calls::<4>(&rt, rt.alloc(), 70_000, &FOUR_BYTES)
 }
 
 // All calls on a small group whose codes take W bytes each.
@@ -172,18 +210,43 @@ fn codes_of_each_width(rt: HostRuntime) -> Result<(), Fail> {
     width_calls::<4>(&rt, rt.alloc())
 }
 
+// The first two rows.
+fn two_rows(alloc: Global, g: &AnyGroup<Entry>) -> Result<AnyGroup<Entry>, Fail> {
+    if g.rows() < 2 {
+        return Err(Fail::new("one row"));
+    }
+    Ok(g.slice_rows(alloc, 0, 2)?)
+}
+
+// The first column.
+fn first_column(alloc: Global, g: &AnyGroup<Entry>) -> Result<AnyGroup<Entry>, Fail> {
+    if g.width() == 0 {
+        return Err(Fail::new("no column"));
+    }
+    Ok(g.project(alloc, &[0])?)
+}
+
+// Whether the codes of a group of so many tuples of two columns, of its first two rows, and of its first column
+// take so many bytes each.
+fn bytes_keep(alloc: Global, tuples: u32, bytes: usize) -> Result<bool, Fail> {
+    let g = many(alloc, tuples, false)?.group(alloc, Kind::Codes)?;
+    let slice = two_rows(alloc, &g)?;
+    let first = first_column(alloc, &g)?;
+    Ok(
+        code_bytes(&g) == bytes
+            && g.width() == 2
+            && code_bytes(&slice) == bytes
+            && slice.tuples() == 2
+            && code_bytes(&first) == bytes
+            && first.tuples() == tuples,
+    )
+}
+
 // Two rows of many tuples, and one column of them, keep the bytes that codes take.
 #[test]
 fn bytes_are_kept(rt: HostRuntime) -> Result<(), Fail> {
-    let alloc = rt.alloc();
     for (tuples, bytes) in [(256, 1), (257, 2), (65_537, 4)] {
-        let g = many(alloc, tuples, false)?.group(alloc, Kind::Codes)?;
-        assert_eq!(rt; (code_bytes(&g), g.width()), (bytes, 2));
-        assert!(rt; 2 <= g.rows());
-        let slice = g.slice_rows(alloc, 0, 2)?;
-        assert_eq!(rt; (code_bytes(&slice), slice.tuples()), (bytes, 2));
-        let first = g.project(alloc, &[0])?;
-        assert_eq!(rt; (code_bytes(&first), first.tuples()), (bytes, tuples));
+        assert!(rt; bytes_keep(rt.alloc(), tuples, bytes)?, "{tuples} tuples");
     }
     Ok(())
 }

@@ -9,24 +9,7 @@ use cla_group::{Group, Kind, Owned};
 use cla_offsets::{Offsets, SEGMENT_ROWS};
 use cla_runs::{Run, Runs};
 use std::alloc::Global;
-use std::process::Abort;
 use std::test::Fail;
-
-// The group of offset lists in this one.
-fn offsets_in(g: &AnyGroup<Entry>) -> Result<&Offsets<Entry>, Fail> {
-    match g {
-        AnyGroup::Offsets(offsets) => Ok(offsets),
-        _ => Err(Fail::new("another kind")),
-    }
-}
-
-// The group of runs in this one.
-fn runs_in(g: &AnyGroup<Entry>) -> Result<&Runs<Entry>, Fail> {
-    match g {
-        AnyGroup::Runs(runs) => Ok(runs),
-        _ => Err(Fail::new("another kind")),
-    }
-}
 
 // The tuple that no list or run names.
 fn rest_in(g: &AnyGroup<Entry>) -> Option<u32> {
@@ -37,17 +20,27 @@ fn rest_in(g: &AnyGroup<Entry>) -> Option<u32> {
     }
 }
 
-// The offsets of tuple k in segment s, by the list and one by one.
-fn list_of(g: &Offsets<Entry>, k: u32, s: u32) -> Result<&[u16], Fail> {
-    let inside = u64::from(s) * u64::from(SEGMENT_ROWS) < u64::from(g.rows());
-    if !inside || k >= g.tuples() || g.rest() == Some(k) {
-        return Err(Fail::new("no list or segment"));
+// Whether these are the offsets of tuple k in segment s, by the list and one by one.
+fn has_offsets(
+    alloc: Global,
+    g: &AnyGroup<Entry>,
+    k: u32,
+    s: u32,
+    want: &[u16],
+) -> Result<bool, Fail> {
+    match g {
+        AnyGroup::Offsets(offsets) => are_offsets(alloc, offsets, k, s, want),
+        _ => Err(Fail::new("another kind")),
     }
-    Ok(g.list(k, s))
 }
 
-// The same, one by one.
-fn offsets_of(alloc: Global, g: &Offsets<Entry>, k: u32, s: u32) -> Result<Vec<u16>, Fail> {
+fn are_offsets(
+    alloc: Global,
+    g: &Offsets<Entry>,
+    k: u32,
+    s: u32,
+    want: &[u16],
+) -> Result<bool, Fail> {
     let inside = u64::from(s) * u64::from(SEGMENT_ROWS) < u64::from(g.rows());
     if !inside || k >= g.tuples() || g.rest() == Some(k) {
         return Err(Fail::new("no list or segment"));
@@ -56,7 +49,15 @@ fn offsets_of(alloc: Global, g: &Offsets<Entry>, k: u32, s: u32) -> Result<Vec<u
     for n in 0..g.count(k, s) {
         offsets.push(u16::try_from(g.offset(k, s, n))?)?;
     }
-    Ok(offsets)
+    Ok(g.list(k, s) == want && offsets.as_slice() == want)
+}
+
+// Whether these are the gaps and lengths of the runs of tuple k.
+fn has_runs(alloc: Global, g: &AnyGroup<Entry>, k: u32, want: &[(u32, u32)]) -> Result<bool, Fail> {
+    match g {
+        AnyGroup::Runs(runs) => Ok(runs_of(alloc, runs, k)?.as_slice() == want),
+        _ => Err(Fail::new("another kind")),
+    }
 }
 
 // The gaps and lengths of the runs of tuple k.
@@ -76,15 +77,9 @@ fn runs_of(alloc: Global, g: &Runs<Entry>, k: u32) -> Result<Vec<(u32, u32)>, Fa
 fn rest_of_four_rows(rt: HostRuntime) -> Result<(), Fail> {
     let alloc = rt.alloc();
     let g = group_of(alloc, Kind::Offsets, 1, &[0, 1, 1, 0], &[0, 5])?;
-    assert_eq!(rt; rest_in(&g), Some(0));
-    let listed = offsets_of(alloc, offsets_in(&g)?, 1, 0)?;
-    assert_eq!(rt; listed.as_slice(), [1, 2].as_slice());
-    assert_eq!(rt; list_of(offsets_in(&g)?, 1, 0)?, [1, 2].as_slice());
-
+    assert!(rt; rest_in(&g) == Some(0) && has_offsets(alloc, &g, 1, 0, &[1, 2])?);
     let g = group_of(alloc, Kind::Runs, 1, &[0, 1, 1, 0], &[0, 5])?;
-    assert_eq!(rt; rest_in(&g), Some(0));
-    let runs = runs_of(alloc, runs_in(&g)?, 1)?;
-    assert_eq!(rt; runs.as_slice(), [(1, 2)].as_slice());
+    assert!(rt; rest_in(&g) == Some(0) && has_runs(alloc, &g, 1, &[(1, 2)])?);
     Ok(())
 }
 
@@ -92,14 +87,9 @@ fn rest_of_four_rows(rt: HostRuntime) -> Result<(), Fail> {
 fn lists_of_two_segments(rt: HostRuntime) -> Result<(), Fail> {
     let alloc = rt.alloc();
     let g = Expected::last_alone(alloc, 40_000)?.group(alloc, Kind::Offsets)?;
-    assert_eq!(rt; list_of(offsets_in(&g)?, 1, 0)?, [].as_slice());
-    assert_eq!(rt; list_of(offsets_in(&g)?, 1, 1)?, [7231].as_slice());
-    let listed = offsets_of(alloc, offsets_in(&g)?, 1, 1)?;
-    assert_eq!(rt; listed.as_slice(), [7231].as_slice());
-
+    assert!(rt; has_offsets(alloc, &g, 1, 0, &[])? && has_offsets(alloc, &g, 1, 1, &[7231])?);
     let g = Expected::last_alone(alloc, 40_000)?.group(alloc, Kind::Runs)?;
-    let runs = runs_of(alloc, runs_in(&g)?, 1)?;
-    assert_eq!(rt; runs.as_slice(), [(39_999, 1)].as_slice());
+    assert!(rt; has_runs(alloc, &g, 1, &[(39_999, 1)])?);
     Ok(())
 }
 
@@ -108,10 +98,8 @@ fn runs_of_three_tuples(rt: HostRuntime) -> Result<(), Fail> {
     let alloc = rt.alloc();
     let codes = [0, 1, 1, 0, 0, 2, 1, 2, 2, 0];
     let g = group_of(alloc, Kind::Runs, 1, &codes, &[5, 0, 8])?;
-    let first = runs_of(alloc, runs_in(&g)?, 0)?;
-    assert_eq!(rt; first.as_slice(), [(0, 1), (2, 2), (4, 1)].as_slice());
-    let third = runs_of(alloc, runs_in(&g)?, 2)?;
-    assert_eq!(rt; third.as_slice(), [(5, 1), (1, 2)].as_slice());
+    assert!(rt; has_runs(alloc, &g, 0, &[(0, 1), (2, 2), (4, 1)])?);
+    assert!(rt; has_runs(alloc, &g, 2, &[(5, 1), (1, 2)])?);
     Ok(())
 }
 
@@ -144,19 +132,43 @@ fn with_zeros(alloc: Global, g: &AnyGroup<Entry>) -> Result<AnyGroup<Entry>, Fai
     Ok(g.with_values(alloc, numbers(alloc, &[0, 0, 5, 5, 0, 0])?)?)
 }
 
+// Whether the group has this rest, that of rows 1 and 2 this one, that of rows 3 and 4 none, and that of column 0
+// the first.
+fn rests_are(
+    alloc: Global,
+    g: &AnyGroup<Entry>,
+    rest: Option<u32>,
+    within: Option<u32>,
+) -> Result<bool, Fail> {
+    Ok(
+        rest_in(g) == rest
+            && rest_within(alloc, g, 1, 3)? == within
+            && rest_within(alloc, g, 3, 5)?.is_none()
+            && rest_of_column(alloc, g)? == rest,
+    )
+}
+
+// Whether the group keeps this rest with other values, and has the tuple of zeros as one when all rows are taken.
+fn rests_with_zeros_are(
+    alloc: Global,
+    g: &AnyGroup<Entry>,
+    rest: Option<u32>,
+) -> Result<bool, Fail> {
+    let other = with_zeros(alloc, g)?;
+    Ok(rest_in(&other) == rest && rest_within(alloc, &other, 0, 5)? == Some(0))
+}
+
+// The last value of the second tuple, the rest of the group, and that of rows 1 and 2.
+const RESTS: [(i64, Option<u32>, Option<u32>); 2] = [(0, Some(1), Some(0)), (5, None, None)];
+
 #[test]
 fn rests_that_are_kept_and_found(rt: HostRuntime) -> Result<(), Fail> {
     let alloc = rt.alloc();
     for kind in [Kind::Offsets, Kind::Runs] {
-        for (b, rest, within) in [(0, Some(1), Some(0)), (5, None, None)] {
+        for (b, rest, within) in RESTS {
             let g = five_rows(alloc, kind, 0, b)?;
-            assert_eq!(rt; rest_in(&g), rest, "{kind:?}");
-            assert_eq!(rt; rest_within(alloc, &g, 1, 3)?, within, "{kind:?}");
-            assert_eq!(rt; rest_within(alloc, &g, 3, 5)?, None, "{kind:?}");
-            assert_eq!(rt; rest_of_column(alloc, &g)?, rest, "{kind:?}");
-            let other = with_zeros(alloc, &g)?;
-            assert_eq!(rt; rest_in(&other), rest, "{kind:?}");
-            assert_eq!(rt; rest_within(alloc, &other, 0, 5)?, Some(0), "{kind:?}");
+            assert!(rt; rests_are(alloc, &g, rest, within)?, "{kind:?}");
+            assert!(rt; rests_with_zeros_are(alloc, &g, rest)?, "{kind:?}");
         }
     }
     Ok(())
