@@ -1,8 +1,7 @@
 //! Budgets of tables.
 
-use crate::runs::{BANNER, SCRIPT, SQUARE, World, ran};
+use crate::runs::{BANNER, End, SCRIPT, SQUARE, Want, World, comes_to, ends_in};
 use cla_cli::Status;
-use cla_num::Int;
 use std::alloc::Global;
 use std::test::Fail;
 
@@ -16,14 +15,11 @@ fn zeros(alloc: Global) -> Result<String, Fail> {
     Ok(table)
 }
 
-#[test]
-fn at_the_budget_and_past_it(rt: HostRuntime) -> Result<(), Fail> {
-    let table = zeros(rt.alloc())?;
-    let world = World::of(SCRIPT, &table);
-    for (budget, status, out, err) in [
-        ("34", Status::Done, "0\n", ""),
+const AT_BUDGETS: [(&str, End); 3] = [
+    ("34", (Status::Done, "0\n", "")),
+    (
+        "33",
         (
-            "33",
             Status::OverBudget {
                 needed: 34,
                 budget: 33,
@@ -31,8 +27,10 @@ fn at_the_budget_and_past_it(rt: HostRuntime) -> Result<(), Fail> {
             "",
             "budget x.mtx: needs 34, has 33\n",
         ),
+    ),
+    (
+        "0",
         (
-            "0",
             Status::OverBudget {
                 needed: 34,
                 budget: 0,
@@ -40,33 +38,41 @@ fn at_the_budget_and_past_it(rt: HostRuntime) -> Result<(), Fail> {
             "",
             "budget x.mtx: needs 34, has 0\n",
         ),
-    ] {
-        let came = ran::<Int<47>>(rt.alloc(), &["run", "s", "--budget", budget], &world)?;
-        assert_eq!(rt; came.status, status, "at {budget}");
-        assert_eq!(rt; came.out.as_slice(), out.as_bytes(), "at {budget}");
-        assert_eq!(rt; came.err.as_slice(), err.as_bytes(), "at {budget}");
+    ),
+];
+
+#[test]
+fn at_the_budget_and_past_it(rt: HostRuntime) -> Result<(), Fail> {
+    let table = zeros(rt.alloc())?;
+    let world = World::of(SCRIPT, &table);
+    for (budget, end) in AT_BUDGETS {
+        assert!(rt;
+            ends_in(rt.alloc(), &["run", "s", "--budget", budget], &world, end)?,
+            "at {budget}"
+        );
     }
     Ok(())
 }
 
 // The budget of a table stands after the table's own faults, before the next table, and before shapes.
+const IN_ORDER: [(&str, Want); 3] = [
+    (SQUARE, (10, "", "budget x.mtx: needs 65, has 64\n")),
+    ("1 1\n1\n", (7, "", "bad file x.mtx: line 1: Banner\n")),
+    (
+        "%%MatrixMarket matrix array integer general\n1 1\n1\n",
+        (3, "", "missing file y.mtx\n"),
+    ),
+];
+
 #[test]
 fn in_the_order_of_reads(rt: HostRuntime) -> Result<(), Fail> {
     let two = "X = read(\"x.mtx\")\nY = read(\"y.mtx\")\nprint(Q)\n";
-    for (table, status, line) in [
-        (SQUARE, 10, "budget x.mtx: needs 65, has 64\n"),
-        ("1 1\n1\n", 7, "bad file x.mtx: line 1: Banner\n"),
-        (
-            "%%MatrixMarket matrix array integer general\n1 1\n1\n",
-            3,
-            "missing file y.mtx\n",
-        ),
-    ] {
+    for (table, want) in IN_ORDER {
         let world = World::of(two, table);
-        let came = ran::<Int<47>>(rt.alloc(), &["run", "s", "--budget=64"], &world)?;
-        assert_eq!(rt; came.code, status, "at {table}");
-        assert!(rt; came.out.is_empty(), "at {table}");
-        assert_eq!(rt; came.err.as_slice(), line.as_bytes(), "at {table}");
+        assert!(rt;
+            comes_to(rt.alloc(), &["run", "s", "--budget=64"], &world, want)?,
+            "at {table}"
+        );
     }
     Ok(())
 }

@@ -1,10 +1,8 @@
 //! Tables as packed files: written, written back as text, read by every command, and refused.
 
-use crate::runs::{BANNER, Came, SCRIPT, SQUARE, World, ran};
+use crate::runs::{BANNER, Came, SCRIPT, SQUARE, Want, World, comes_to, ran};
 use cla_io::CallKind;
-use cla_num::Int;
 use std::alloc::Global;
-use std::process::Abort;
 use std::test::Fail;
 
 const PACK: &[&str] = &["pack", "x.mtx", "y.mtx"];
@@ -62,7 +60,7 @@ fn two_groups(alloc: Global) -> Result<Vec<u8>, Fail> {
 
 // What `y.mtx` holds after these words over this table, which are done and print nothing.
 fn written(alloc: Global, words: &[&str], table: &[u8]) -> Result<Vec<u8>, Fail> {
-    let came = ran::<Int<47>>(alloc, words, &World::of_bytes("", table))?;
+    let came = ran(alloc, words, &World::of_bytes("", table))?;
     if !came.is(0, "", "") {
         return Err(Fail::new("not done"));
     }
@@ -73,84 +71,83 @@ fn written(alloc: Global, words: &[&str], table: &[u8]) -> Result<Vec<u8>, Fail>
     }
 }
 
-fn one_way(
-    rt: &impl Abort,
-    alloc: Global,
-    words: &[&str],
-    table: &[u8],
-    expected: &[u8],
-) -> Result<(), Fail> {
-    let bytes = written(alloc, words, table)?;
-    assert_eq!(rt; bytes.as_slice(), expected, "at {words:?}");
-    Ok(())
+// Whether these words over the table write this file.
+fn writes(alloc: Global, words: &[&str], table: &[u8], expected: &[u8]) -> Result<bool, Fail> {
+    Ok(written(alloc, words, table)?.as_slice() == expected)
 }
 
-// Array texts, their packed files, and what is written of them as text.
-fn both_ways(
-    rt: &impl Abort,
-    alloc: Global,
-    array: &str,
-    packed: &[u8],
-    rest: &str,
-) -> Result<(), Fail> {
-    let text = repeated(
-        alloc,
-        "%%MatrixMarket matrix coordinate integer general\n",
-        &[rest],
+// Whether an array text and its packed file are packed as that file and written back as this text, which is
+// packed and written back too.
+fn both_ways(alloc: Global, array: &str, packed: &[u8], rest: &str) -> Result<bool, Fail> {
+    let head = "%%MatrixMarket matrix coordinate integer general\n";
+    let text = repeated(alloc, head, &[rest], 1)?;
+    let text = text.as_bytes();
+    let array = array.as_bytes();
+    Ok(
+        writes(alloc, PACK, array, packed)?
+            && writes(alloc, PACK, text, packed)?
+            && writes(alloc, PACK, packed, packed)?
+            && writes(alloc, UNPACK, array, text)?
+            && writes(alloc, UNPACK, text, text)?
+            && writes(alloc, UNPACK, packed, text)?,
+    )
+}
+
+// Size lines, a cell and how many times it stands in the column, the packed file, and the lines of entries.
+const PACKED: [(&str, &str, u32, &[u8], &str); 3] = [
+    ("1000 1\n", "0\n", 1000, ZEROS, "1000 1 0\n"),
+    ("3 1\n", "5\n", 3, FIVES, "3 1 3\n1 1 5\n2 1 5\n3 1 5\n"),
+    (
+        "2 2\n",
+        "1\n3\n2\n4\n",
         1,
-    )?;
-    one_way(rt, alloc, PACK, array.as_bytes(), packed)?;
-    one_way(rt, alloc, PACK, text.as_bytes(), packed)?;
-    one_way(rt, alloc, PACK, packed, packed)?;
-    one_way(rt, alloc, UNPACK, array.as_bytes(), text.as_bytes())?;
-    one_way(rt, alloc, UNPACK, text.as_bytes(), text.as_bytes())?;
-    one_way(rt, alloc, UNPACK, packed, text.as_bytes())
+        PACKED_SQUARE,
+        "2 2 4\n1 1 1\n2 1 3\n1 2 2\n2 2 4\n",
+    ),
+];
+
+// The array text of a size line and lines, so many times.
+fn array_of(alloc: Global, size: &str, lines: &str, times: u32) -> Result<String, Fail> {
+    let head = repeated(alloc, BANNER, &[size], 1)?;
+    repeated(alloc, &head, &[lines], times)
 }
 
 #[test]
 fn packed_and_unpacked(rt: HostRuntime) -> Result<(), Fail> {
-    let zeros = repeated(rt.alloc(), BANNER, &["1000 1\n"], 1)?;
-    let zeros = repeated(rt.alloc(), &zeros, &["0\n"], 1000)?;
-    both_ways(&rt, rt.alloc(), &zeros, ZEROS, "1000 1 0\n")?;
-    let fives = repeated(rt.alloc(), BANNER, &["3 1\n5\n5\n5\n"], 1)?;
-    both_ways(
-        &rt,
-        rt.alloc(),
-        &fives,
-        FIVES,
-        "3 1 3\n1 1 5\n2 1 5\n3 1 5\n",
-    )?;
-    let entries = "2 2 4\n1 1 1\n2 1 3\n1 2 2\n2 2 4\n";
-    both_ways(&rt, rt.alloc(), SQUARE, PACKED_SQUARE, entries)
+    for (size, lines, times, packed, rest) in PACKED {
+        let array = array_of(rt.alloc(), size, lines, times)?;
+        assert!(rt; both_ways(rt.alloc(), &array, packed, rest)?, "at {size}");
+    }
+    Ok(())
 }
+
+const ON_GROUPS: [(&[&str], Want); 4] = [
+    (&["run", "s"], (0, "3000\n", "")),
+    (&["run", "s", "--budget=2078"], (0, "3000\n", "")),
+    (
+        &["run", "s", "--budget=2077"],
+        (10, "", "budget x.mtx: needs 2078, has 2077\n"),
+    ),
+    (
+        &["stats", "x.mtx"],
+        (
+            0,
+            "rows 1000\ncolumns 2\ngroups 2\nbytes 2078\n\
+            group 1 codes width 1 tuples 2 bytes 1029\ngroup 2 codes width 1 tuples 2 bytes 1029\n",
+            "",
+        ),
+    ),
+];
 
 // A packed file keeps its groups and its bytes, until it is packed anew.
 #[test]
 fn groups_of_a_file(rt: HostRuntime) -> Result<(), Fail> {
     let file = two_groups(rt.alloc())?;
     let world = World::of_bytes(SCRIPT, &file);
-    for (words, code, out, err) in [
-        (&["run", "s"].as_slice(), 0, "3000\n", ""),
-        (&["run", "s", "--budget=2078"].as_slice(), 0, "3000\n", ""),
-        (
-            &["run", "s", "--budget=2077"].as_slice(),
-            10,
-            "",
-            "budget x.mtx: needs 2078, has 2077\n",
-        ),
-        (
-            &["stats", "x.mtx"].as_slice(),
-            0,
-            "rows 1000\ncolumns 2\ngroups 2\nbytes 2078\n\
-            group 1 codes width 1 tuples 2 bytes 1029\ngroup 2 codes width 1 tuples 2 bytes 1029\n",
-            "",
-        ),
-    ] {
-        let came = ran::<Int<47>>(rt.alloc(), words, &world)?;
-        assert!(rt; came.is(code, out, err), "at {words:?}");
+    for (words, want) in ON_GROUPS {
+        assert!(rt; comes_to(rt.alloc(), words, &world, want)?, "at {words:?}");
     }
-    let packed = written(rt.alloc(), PACK, &file)?;
-    assert_eq!(rt; packed.len(), 1069);
+    assert!(rt; written(rt.alloc(), PACK, &file)?.len() == 1069);
     Ok(())
 }
 
@@ -183,102 +180,120 @@ const REFUSED: [(&[u8], u8, &str); 9] = [
     ),
 ];
 
+// Whether these words refuse the table so, and leave `y.mtx` as it was.
+fn refuses(alloc: Global, words: &[&str], file: &[u8], code: u8, line: &str) -> Result<bool, Fail> {
+    let mut world = World::of_bytes(SCRIPT, file);
+    world.other = Some(b"old");
+    let came = ran(alloc, words, &world)?;
+    Ok(came.is(code, "", line) && came.wrote(b"old"))
+}
+
+const READING: [&[&str]; 4] = [&["run", "s"], PACK, UNPACK, &["stats", "x.mtx"]];
+
 #[test]
 fn refused_files(rt: HostRuntime) -> Result<(), Fail> {
     for (file, code, line) in REFUSED {
-        let mut world = World::of_bytes(SCRIPT, file);
-        world.other = Some(b"old");
-        for words in [
-            &["run", "s"].as_slice(),
-            PACK,
-            UNPACK,
-            &["stats", "x.mtx"].as_slice(),
-        ] {
-            let came = ran::<Int<47>>(rt.alloc(), words, &world)?;
-            assert!(rt; came.is(code, "", line), "at {words:?} {line}");
-            assert!(rt; came.wrote(b"old"), "at {words:?} {line}");
+        for words in READING {
+            assert!(rt;
+                refuses(rt.alloc(), words, file, code, line)?,
+                "at {words:?} {line}"
+            );
         }
     }
     Ok(())
 }
 
-// A table that isn't there, and one past its budget: nothing is written.
+// A table that isn't there, and one past its budget.
+const NOT_WRITTEN: [(&[&str], Want); 3] = [
+    (&["pack", "y.mtx", "x.mtx"], (3, "", "missing file y.mtx\n")),
+    (
+        &["unpack", "y.mtx", "x.mtx"],
+        (3, "", "missing file y.mtx\n"),
+    ),
+    (
+        &["pack", "x.mtx", "y.mtx", "--budget", "64"],
+        (10, "", "budget x.mtx: needs 65, has 64\n"),
+    ),
+];
+
+// Whether these words over the table of 1 2 and 3 4 come to this, and `y.mtx` holds this then.
+fn leaves(alloc: Global, words: &[&str], want: Want, other: Option<&[u8]>) -> Result<bool, Fail> {
+    let (code, out, err) = want;
+    let came = ran(alloc, words, &World::of(SCRIPT, SQUARE))?;
+    let holds = match other {
+        Some(bytes) => came.wrote(bytes),
+        None => came.other.is_none(),
+    };
+    Ok(came.is(code, out, err) && holds)
+}
+
 #[test]
 fn refused_tables(rt: HostRuntime) -> Result<(), Fail> {
-    let world = World::of(SCRIPT, SQUARE);
-    for (words, code, line) in [
-        (
-            &["pack", "y.mtx", "x.mtx"].as_slice(),
-            3,
-            "missing file y.mtx\n",
-        ),
-        (
-            &["unpack", "y.mtx", "x.mtx"].as_slice(),
-            3,
-            "missing file y.mtx\n",
-        ),
-        (
-            &["pack", "x.mtx", "y.mtx", "--budget", "64"].as_slice(),
-            10,
-            "budget x.mtx: needs 65, has 64\n",
-        ),
-    ] {
-        let came = ran::<Int<47>>(rt.alloc(), words, &world)?;
-        assert!(rt; came.is(code, "", line), "at {words:?}");
-        assert!(rt; came.other.is_none(), "at {words:?}");
+    for (words, want) in NOT_WRITTEN {
+        assert!(rt; leaves(rt.alloc(), words, want, None)?, "at {words:?}");
     }
     let words = ["pack", "x.mtx", "y.mtx", "--budget", "65"];
-    let came = ran::<Int<47>>(rt.alloc(), &words, &world)?;
-    assert!(rt; came.is(0, "", "") && came.wrote(PACKED_SQUARE));
+    assert!(rt; leaves(rt.alloc(), &words, (0, "", ""), Some(PACKED_SQUARE))?);
     Ok(())
 }
 
-// Each call fails in turn, until there is no such call any more. What stands of the file is what was there
+// What these words come to where the n-th call of this kind fails.
+fn failing(alloc: Global, words: &[&str], kind: CallKind, n: u64) -> Result<Came, Fail> {
+    let mut world = World::of(SCRIPT, SQUARE);
+    world.other = Some(b"old");
+    world.failing = Some((kind, n));
+    ran(alloc, words, &world)
+}
+
+// Which calls fail, the exit status, the line on standard error, and what stands of the file: what was there
 // before, nothing, or all of it.
-fn each_failing(
-    rt: &impl Abort,
+type Failing = (CallKind, u8, &'static str, Option<&'static [u8]>);
+
+const FAILING: [Failing; 5] = [
+    (CallKind::BeginRead, 4, "cannot read x.mtx\n", Some(b"old")),
+    (CallKind::Read, 4, "cannot read x.mtx\n", Some(b"old")),
+    (
+        CallKind::BeginWrite,
+        5,
+        "cannot write y.mtx\n",
+        Some(b"old"),
+    ),
+    (CallKind::Write, 5, "cannot write y.mtx\n", Some(b"")),
+    (CallKind::EndWrite, 5, "cannot write y.mtx\n", None),
+];
+
+// Whether each call fails in turn, until there is no such call any more, and the file is written then.
+fn each_fails(
     alloc: Global,
-    kind: CallKind,
-    line: &str,
-    stands: Option<&[u8]>,
-) -> Result<(), Fail> {
-    for (words, expected) in [(PACK, PACKED_SQUARE), (UNPACK, UNPACKED_SQUARE)] {
-        let (mut failed, mut done) = (false, false);
-        for n in 1..=64 {
-            let mut world = World::of(SCRIPT, SQUARE);
-            world.other = Some(b"old");
-            world.failing = Some((kind, n));
-            let came = ran::<Int<47>>(alloc, words, &world)?;
-            if came.code == 0 {
-                assert!(rt; came.wrote(expected), "at {kind:?} {n}");
-                done = true;
-                break;
-            }
-            let code = if line == "cannot read x.mtx\n" { 4 } else { 5 };
-            assert!(rt; came.is(code, "", line), "at {kind:?} {n}");
-            assert!(rt; came.wrote(stands.unwrap_or(expected)), "at {kind:?} {n}");
-            failed = true;
+    words: &[&str],
+    expected: &[u8],
+    failed: Failing,
+) -> Result<bool, Fail> {
+    let (kind, code, line, stands) = failed;
+    for n in 1..=64 {
+        let came = failing(alloc, words, kind, n)?;
+        if came.code == 0 {
+            return Ok(1 < n && came.wrote(expected));
         }
-        assert!(rt; failed && done, "at {kind:?}");
+        if !came.is(code, "", line) || !came.wrote(stands.unwrap_or(expected)) {
+            return Ok(false);
+        }
     }
-    Ok(())
+    Ok(false)
 }
 
 #[test]
 fn failing_calls(rt: HostRuntime) -> Result<(), Fail> {
-    let old = b"old".as_slice();
-    for (kind, line, stands) in [
-        (CallKind::BeginRead, "cannot read x.mtx\n", Some(old)),
-        (CallKind::Read, "cannot read x.mtx\n", Some(old)),
-        (CallKind::BeginWrite, "cannot write y.mtx\n", Some(old)),
-        (
-            CallKind::Write,
-            "cannot write y.mtx\n",
-            Some(b"".as_slice()),
-        ),
-        (CallKind::EndWrite, "cannot write y.mtx\n", None),
-    ] {
-        each_failing(&rt, rt.alloc(), kind, line, stands)?;
+    for failed in FAILING {
+        let (kind, _, line, _) = failed;
+        assert!(rt;
+            each_fails(rt.alloc(), PACK, PACKED_SQUARE, failed)?,
+            "pack at {kind:?}: {line}"
+        );
+        assert!(rt;
+            each_fails(rt.alloc(), UNPACK, UNPACKED_SQUARE, failed)?,
+            "unpack at {kind:?}: {line}"
+        );
     }
     Ok(())
 }

@@ -5,7 +5,7 @@ ghost use Rattle.cla_num.specs.Bits.{IsSupported};
 
 use cla_cli::{Status, code, run};
 use cla_io::{CallKind, Files, MemFiles, MemSink};
-use cla_num::{Meter, Name, Number};
+use cla_num::{Int, Meter, Name, Number};
 use std::alloc::Global;
 use std::collections::BTreeMap;
 use std::test::Fail;
@@ -33,9 +33,17 @@ pub(crate) struct Came {
 impl Came {
     /// Whether it came to this exit status, and to this on the output and standard error.
     pub(crate) fn is(&self, code: u8, out: &str, err: &str) -> bool {
-        self.code == code
-            && self.out.as_slice() == out.as_bytes()
-            && self.err.as_slice() == err.as_bytes()
+        self.code == code && self.put(out, err)
+    }
+
+    /// Whether it came to this status, and to this on the output and standard error.
+    pub(crate) fn ended(&self, status: Status, out: &str, err: &str) -> bool {
+        self.status == status && self.put(out, err)
+    }
+
+    // Whether this stands on the output and on standard error.
+    fn put(&self, out: &str, err: &str) -> bool {
+        self.out.as_slice() == out.as_bytes() && self.err.as_slice() == err.as_bytes()
     }
 
     /// Whether `y.mtx` holds these bytes.
@@ -77,19 +85,71 @@ impl<'a> World<'a> {
     }
 }
 
+/// The words that run the script `s`.
+pub(crate) const RUN: &[&str] = &["run", "s"];
+
+/// The exit status of a run, the output, and standard error.
+pub(crate) type Want<'a> = (u8, &'a str, &'a str);
+
+/// The status of a run, the output, and standard error.
+pub(crate) type End<'a> = (Status, &'a str, &'a str);
+
+/// Whether these words come to this exit status, output and standard error.
+pub(crate) fn comes_to(
+    alloc: Global,
+    words: &[&str],
+    world: &World,
+    want: Want,
+) -> Result<bool, Fail> {
+    let (code, out, err) = want;
+    Ok(ran(alloc, words, world)?.is(code, out, err))
+}
+
+/// Whether these words come to this status, output and standard error.
+pub(crate) fn ends_in(
+    alloc: Global,
+    words: &[&str],
+    world: &World,
+    end: End,
+) -> Result<bool, Fail> {
+    let (status, out, err) = end;
+    Ok(ran(alloc, words, world)?.ended(status, out, err))
+}
+
+/// Runs these words on numbers of 47 bits.
+pub(crate) fn ran(alloc: Global, words: &[&str], world: &World) -> Result<Came, Fail> {
+    ran_on::<Int<47>>(alloc, words, world)
+}
+
 /// Runs these words.
-pub(crate) fn ran<N: Number>(alloc: Global, words: &[&str], world: &World) -> Result<Came, Fail>
+pub(crate) fn ran_on<N: Number>(alloc: Global, words: &[&str], world: &World) -> Result<Came, Fail>
     requires { IsSupported N.BITS }
 {
-    let mut held = Vec::new(alloc);
-    for word in words {
-        held.push(String::from_str(alloc, word)?)?;
-    }
+    let held = held_words(alloc, words)?;
     let mut files = files_of(alloc, world)?;
     let mut out = sink(alloc, world.failing_write)?;
     let mut err = sink(alloc, world.failing_line)?;
     let mut meter = Meter::new();
     let status = run::<N, _, _, _>(alloc, &held, &mut files, &mut out, &mut err, &mut meter);
+    left_by(alloc, status, &files, &out, &err)
+}
+
+fn held_words(alloc: Global, words: &[&str]) -> Result<Vec<String>, Fail> {
+    let mut held = Vec::new(alloc);
+    for word in words {
+        held.push(String::from_str(alloc, word)?)?;
+    }
+    Ok(held)
+}
+
+// What a run came to that left these files and sinks.
+fn left_by(
+    alloc: Global,
+    status: Status,
+    files: &MemFiles,
+    out: &MemSink,
+    err: &MemSink,
+) -> Result<Came, Fail> {
     let other = match files.bytes("y.mtx") {
         Some(bytes) => Some(bytes.to_vec(alloc)?),
         None => None,
@@ -107,27 +167,37 @@ fn files_of(alloc: Global, world: &World) -> Result<MemFiles, Fail>
     ensures { IfOk result (λ files. (⟦<MemFiles as Files>⟧.state files).writing ≡ None) }
 {
     let mut files = BTreeMap::new(alloc);
-    if let Some(script) = world.script {
-        files.insert(Name::of(alloc, "s")?, script.as_bytes().to_vec(alloc)?)?;
-    }
-    if let Some(table) = world.table {
-        files.insert(Name::of(alloc, "x.mtx")?, table.to_vec(alloc)?)?;
-    }
-    if let Some(table) = world.other {
-        files.insert(Name::of(alloc, "y.mtx")?, table.to_vec(alloc)?)?;
-    }
-    let mut fail = Vec::new(alloc);
-    if let Some(call) = world.failing {
-        fail.push(call)?;
-    }
+    let script = world.script.map(|text| text.as_bytes());
+    hold(alloc, &mut files, "s", script)?;
+    hold(alloc, &mut files, "x.mtx", world.table)?;
+    hold(alloc, &mut files, "y.mtx", world.other)?;
+    let fail = listed(alloc, world.failing)?;
     Ok(MemFiles::new(files, fail))
+}
+
+// Adds a file, if there are bytes of it.
+fn hold(
+    alloc: Global,
+    files: &mut BTreeMap<Name, Vec<u8>>,
+    name: &str,
+    bytes: Option<&[u8]>,
+) -> Result<(), Fail> {
+    if let Some(bytes) = bytes {
+        files.insert(Name::of(alloc, name)?, bytes.to_vec(alloc)?)?;
+    }
+    Ok(())
 }
 
 // A sink whose call of this number fails.
 fn sink(alloc: Global, failing: Option<u64>) -> Result<MemSink, Fail> {
-    let mut fail = Vec::new(alloc);
-    if let Some(call) = failing {
-        fail.push(call)?;
+    Ok(MemSink::new(listed(alloc, failing)?))
+}
+
+// The call that fails, if there is one.
+fn listed<T: Drop>(alloc: Global, call: Option<T>) -> Result<Vec<T>, Fail> {
+    let mut calls = Vec::new(alloc);
+    if let Some(call) = call {
+        calls.push(call)?;
     }
-    Ok(MemSink::new(fail))
+    Ok(calls)
 }

@@ -1,6 +1,6 @@
 //! Scripts: what they print, and why they are refused.
 
-use crate::runs::{BANNER, SCRIPT, SQUARE, World, ran};
+use crate::runs::{BANNER, End, RUN, SCRIPT, SQUARE, Want, World, comes_to, ends_in, ran_on};
 use cla_cli::{Place, Status};
 use cla_num::{Int, Number, OpFault, What};
 use std::alloc::Global;
@@ -8,48 +8,47 @@ use std::test::Fail;
 
 #[test]
 fn ample_memory_is_done(rt: HostRuntime) -> Result<(), Fail> {
-    let came = ran::<Int<47>>(rt.alloc(), &["run", "s"], &World::of(SCRIPT, SQUARE))?;
-    assert_eq!(rt; came.code, 0);
-    assert_eq!(rt; came.out.as_slice(), b"10\n".as_slice());
-    assert!(rt; came.err.is_empty());
+    let world = World::of(SCRIPT, SQUARE);
+    assert!(rt; comes_to(rt.alloc(), RUN, &world, (0, "10\n", ""))?);
     Ok(())
 }
 
-#[test]
-fn worked_examples(rt: HostRuntime) -> Result<(), Fail> {
-    let two = "%%MatrixMarket matrix array integer general\n2 1\n140737488355327\n1\n";
-    let three =
-        "%%MatrixMarket matrix array integer general\n3 1\n140737488355327\n140737488355327\n-140737488355327\n";
-    for (table, status, out, err) in [
-        (SQUARE, 0, "10\n", ""),
-        (
-            two,
-            9,
-            "",
-            "operator 2:7: entry (1, 1) is 140737488355328\n",
-        ),
-        (three, 0, "140737488355327\n", ""),
-    ] {
-        let came = ran::<Int<47>>(rt.alloc(), &["run", "s"], &World::of(SCRIPT, table))?;
-        assert_eq!(rt; came.code, status, "at {table}");
-        assert_eq!(rt; came.out.as_slice(), out.as_bytes(), "at {table}");
-        assert_eq!(rt; came.err.as_slice(), err.as_bytes(), "at {table}");
-    }
-    let small = "%%MatrixMarket matrix array integer general\n2 1\n127\n1\n";
-    let came = ran::<Int<7>>(rt.alloc(), &["run", "s"], &World::of(SCRIPT, small))?;
-    let wide = Int::<47>::of(128).ok_or("in range")?.wide();
+// Tables, and what the sum of their cells comes to.
+const SUMS: [(&str, Want); 3] = [
+    (SQUARE, (0, "10\n", "")),
+    (
+        "%%MatrixMarket matrix array integer general\n2 1\n140737488355327\n1\n",
+        (9, "", "operator 2:7: entry (1, 1) is 140737488355328\n"),
+    ),
+    (
+        "%%MatrixMarket matrix array integer general\n3 1\n140737488355327\n140737488355327\n-140737488355327\n",
+        (0, "140737488355327\n", ""),
+    ),
+];
+
+// The status of a sum that is 128, where numbers of 7 bits are added.
+fn past_seven_bits() -> Option<Status> {
+    let value = Int::<47>::of(128)?.wide();
     let fault = OpFault {
         op: 0,
         row: 1,
         col: 1,
-        what: What::Range { value: wide },
+        what: What::Range { value },
     };
     let place = Place { line: 2, col: 7 };
-    assert_eq!(rt; came.status, Status::Operator { place, fault });
-    assert_eq!(rt;
-        came.err.as_slice(),
-        b"operator 2:7: entry (1, 1) is 128\n".as_slice()
-    );
+    Some(Status::Operator { place, fault })
+}
+
+#[test]
+fn worked_examples(rt: HostRuntime) -> Result<(), Fail> {
+    for (table, want) in SUMS {
+        let world = World::of(SCRIPT, table);
+        assert!(rt; comes_to(rt.alloc(), RUN, &world, want)?, "at {table}");
+    }
+    let small = "%%MatrixMarket matrix array integer general\n2 1\n127\n1\n";
+    let came = ran_on::<Int<7>>(rt.alloc(), RUN, &World::of(SCRIPT, small))?;
+    let status = past_seven_bits().ok_or("in range")?;
+    assert!(rt; came.ended(status, "", "operator 2:7: entry (1, 1) is 128\n"));
     Ok(())
 }
 
@@ -148,72 +147,64 @@ const SCRIPTS: [(&str, u8, &str, &str); 23] = [
 #[test]
 fn scripts(rt: HostRuntime) -> Result<(), Fail> {
     for (script, status, out, err) in SCRIPTS {
-        let came = ran::<Int<47>>(rt.alloc(), &["run", "s"], &World::of(script, SQUARE))?;
-        assert_eq!(rt; came.code, status, "at {script}");
-        assert_eq!(rt; came.out.as_slice(), out.as_bytes(), "at {script}");
-        assert_eq!(rt; came.err.as_slice(), err.as_bytes(), "at {script}");
+        let world = World::of(script, SQUARE);
+        assert!(rt;
+            comes_to(rt.alloc(), RUN, &world, (status, out, err))?,
+            "at {script}"
+        );
     }
     Ok(())
 }
 
 // A name stands for the table that was read last, and a table may be read again.
+const SEVERAL: &str = "X = read(\"x.mtx\")\nY = read(\"y.mtx\")\nprint(X)\nX = read(\"y.mtx\")\n\
+    print(sum(X)); print(sum(Y)); print(nrow(X)); Y = read(\"x.mtx\"); print(sum(Y * 2))";
+
+const OF_SEVERAL: End = (Status::Done, "1 2\n3 4\n-3\n-3\n3\n20\n", "");
+
 #[test]
 fn several_tables(rt: HostRuntime) -> Result<(), Fail> {
-    let script = "X = read(\"x.mtx\")\nY = read(\"y.mtx\")\nprint(X)\nX = read(\"y.mtx\")\n\
-        print(sum(X)); print(sum(Y)); print(nrow(X)); Y = read(\"x.mtx\"); print(sum(Y * 2))";
-    let mut world = World::of(script, SQUARE);
+    let alloc = rt.alloc();
+    let mut world = World::of(SEVERAL, SQUARE);
     world.other = Some(b"%%MatrixMarket matrix array integer general\n3 1\n-1\n-1\n-1\n");
-    let came = ran::<Int<47>>(rt.alloc(), &["run", "s"], &world)?;
-    assert_eq!(rt;
-        came.out.as_slice(),
-        b"1 2\n3 4\n-3\n-3\n3\n20\n".as_slice()
-    );
-    assert_eq!(rt; came.status, Status::Done);
-    assert!(rt; came.err.is_empty());
+    assert!(rt; ends_in(alloc, RUN, &world, OF_SEVERAL)?);
     world.other = Some(b"1 1\n1\n");
-    let came = ran::<Int<47>>(rt.alloc(), &["run", "s"], &world)?;
-    assert_eq!(rt; came.code, 7);
-    assert!(rt; came.out.is_empty());
-    assert_eq!(rt;
-        came.err.as_slice(),
-        b"bad file y.mtx: line 1: Banner\n".as_slice()
-    );
+    let refused = (7, "", "bad file y.mtx: line 1: Banner\n");
+    assert!(rt; comes_to(alloc, RUN, &world, refused)?);
     world.table = None;
-    let came = ran::<Int<47>>(rt.alloc(), &["run", "s"], &world)?;
-    assert_eq!(rt; came.err.as_slice(), b"missing file x.mtx\n".as_slice());
+    assert!(rt; comes_to(alloc, RUN, &world, (3, "", "missing file x.mtx\n"))?);
     Ok(())
 }
 
-// A statement of 257 tokens is too long.
-#[test]
-fn a_long_statement(rt: HostRuntime) -> Result<(), Fail> {
-    let mut script = String::from_str(rt.alloc(), "print(1")?;
+// A statement of 257 tokens.
+fn long_statement(alloc: Global) -> Result<String, Fail> {
+    let mut script = String::from_str(alloc, "print(1")?;
     for _ in 0..127 {
         script.push_str("+1")?;
     }
     script.push_str(")\n")?;
-    let came = ran::<Int<47>>(rt.alloc(), &["run", "s"], &World::of(&script, SQUARE))?;
-    assert_eq!(rt; came.code, 6);
-    assert_eq!(rt; came.err.as_slice(), b"script 1:261: Long\n".as_slice());
+    Ok(script)
+}
+
+#[test]
+fn a_long_statement(rt: HostRuntime) -> Result<(), Fail> {
+    let script = long_statement(rt.alloc())?;
+    let want = (6, "", "script 1:261: Long\n");
+    assert!(rt; comes_to(rt.alloc(), RUN, &World::of(&script, SQUARE), want)?);
     Ok(())
+}
+
+// Whether a comment of so many bytes comes to this.
+fn comment_ends_in(alloc: Global, bytes: usize, end: End) -> Result<bool, Fail> {
+    let script = String::from_utf8(Vec::from_elem(alloc, b'#', bytes)?)?;
+    ends_in(alloc, RUN, &World::of(&script, SQUARE), end)
 }
 
 #[test]
 fn long_scripts(rt: HostRuntime) -> Result<(), Fail> {
-    for (len, status, line) in [
-        (1 << 20, Status::Done, ""),
-        (
-            (1 << 20) + 1,
-            Status::Limit,
-            "limit s: more than 1048576 bytes\n",
-        ),
-    ] {
-        let script = String::from_utf8(Vec::from_elem(rt.alloc(), b'#', len)?)?;
-        let came = ran::<Int<47>>(rt.alloc(), &["run", "s"], &World::of(&script, SQUARE))?;
-        assert_eq!(rt; came.status, status, "at {len}");
-        assert!(rt; came.out.is_empty(), "at {len}");
-        assert_eq!(rt; came.err.as_slice(), line.as_bytes(), "at {len}");
-    }
+    let limit = (Status::Limit, "", "limit s: more than 1048576 bytes\n");
+    assert!(rt; comment_ends_in(rt.alloc(), 1_048_576, (Status::Done, "", ""))?);
+    assert!(rt; comment_ends_in(rt.alloc(), 1_048_577, limit)?);
     Ok(())
 }
 
@@ -225,61 +216,69 @@ fn product_script(alloc: Global, factor: &str) -> Result<String, Fail> {
     Ok(script)
 }
 
+// Factors, the table behind its banner, and the exit status, output and standard error.
+const PRODUCTS: [(&str, &str, u8, &str, &str); 8] = [
+    ("X * 3", "2 2\n1\n3\n2\n4\n", 0, "30\n", ""),
+    ("X * 0", "2 2\n1\n3\n2\n4\n", 0, "0\n", ""),
+    (
+        "X * 140737488355327",
+        "3 1\n1\n-1\n-1\n",
+        0,
+        "-140737488355327\n",
+        "",
+    ),
+    (
+        "X * 2",
+        "2 1\n70368744177664\n1\n",
+        9,
+        "",
+        "operator 2:13: entry (1, 1) is 140737488355328\n",
+    ),
+    (
+        "X * 2",
+        "2 1\n-70368744177664\n1\n",
+        9,
+        "",
+        "operator 2:13: entry (1, 1) is -140737488355328\n",
+    ),
+    (
+        "X * 2",
+        "3 1\n1\n70368744177664\n70368744177664\n",
+        9,
+        "",
+        "operator 2:13: entry (2, 1) is 140737488355328\n",
+    ),
+    (
+        "X * 2",
+        "2 2\n1\n70368744177664\n70368744177664\n1\n",
+        9,
+        "",
+        "operator 2:13: entry (1, 2) is 140737488355328\n",
+    ),
+    (
+        "X * 2",
+        "2 1\n70368744177663\n1\n",
+        9,
+        "",
+        "operator 2:7: entry (1, 1) is 140737488355328\n",
+    ),
+];
+
+// Whether the sum of the table's products comes to this.
+fn product_comes_to(alloc: Global, factor: &str, rest: &str, want: Want) -> Result<bool, Fail> {
+    let script = product_script(alloc, factor)?;
+    let mut table = String::from_str(alloc, BANNER)?;
+    table.push_str(rest)?;
+    comes_to(alloc, RUN, &World::of(&script, &table), want)
+}
+
 #[test]
 fn products(rt: HostRuntime) -> Result<(), Fail> {
-    for (factor, rest, status, out, err) in [
-        ("X * 3", "2 2\n1\n3\n2\n4\n", 0, "30\n", ""),
-        ("X * 0", "2 2\n1\n3\n2\n4\n", 0, "0\n", ""),
-        (
-            "X * 140737488355327",
-            "3 1\n1\n-1\n-1\n",
-            0,
-            "-140737488355327\n",
-            "",
-        ),
-        (
-            "X * 2",
-            "2 1\n70368744177664\n1\n",
-            9,
-            "",
-            "operator 2:13: entry (1, 1) is 140737488355328\n",
-        ),
-        (
-            "X * 2",
-            "2 1\n-70368744177664\n1\n",
-            9,
-            "",
-            "operator 2:13: entry (1, 1) is -140737488355328\n",
-        ),
-        (
-            "X * 2",
-            "3 1\n1\n70368744177664\n70368744177664\n",
-            9,
-            "",
-            "operator 2:13: entry (2, 1) is 140737488355328\n",
-        ),
-        (
-            "X * 2",
-            "2 2\n1\n70368744177664\n70368744177664\n1\n",
-            9,
-            "",
-            "operator 2:13: entry (1, 2) is 140737488355328\n",
-        ),
-        (
-            "X * 2",
-            "2 1\n70368744177663\n1\n",
-            9,
-            "",
-            "operator 2:7: entry (1, 1) is 140737488355328\n",
-        ),
-    ] {
-        let script = product_script(rt.alloc(), factor)?;
-        let mut table = String::from_str(rt.alloc(), BANNER)?;
-        table.push_str(rest)?;
-        let came = ran::<Int<47>>(rt.alloc(), &["run", "s"], &World::of(&script, &table))?;
-        assert_eq!(rt; came.code, status, "at {factor} {rest}");
-        assert_eq!(rt; came.out.as_slice(), out.as_bytes(), "at {factor} {rest}");
-        assert_eq!(rt; came.err.as_slice(), err.as_bytes(), "at {factor} {rest}");
+    for (factor, rest, status, out, err) in PRODUCTS {
+        assert!(rt;
+            product_comes_to(rt.alloc(), factor, rest, (status, out, err))?,
+            "at {factor} {rest}"
+        );
     }
     Ok(())
 }

@@ -1,8 +1,8 @@
 //! Tables in every form, and tables that are refused.
 
-use crate::runs::{SCRIPT, World, ran};
+use crate::runs::{RUN, SCRIPT, World, comes_to, ends_in};
 use cla_cli::Status;
-use cla_num::Int;
+use std::alloc::Global;
 use std::test::Fail;
 
 // Tables in every form, and what is printed of each.
@@ -41,16 +41,18 @@ const TABLES: [(&str, &str); 8] = [
     ),
 ];
 
+// Whether the table behind the first word of its banner is printed so.
+fn prints(alloc: Global, rest: &str, out: &str) -> Result<bool, Fail> {
+    let mut table = String::from_str(alloc, "%%MatrixMarket ")?;
+    table.push_str(rest)?;
+    let world = World::of("X = read(\"x.mtx\")\nprint(X)", &table);
+    ends_in(alloc, RUN, &world, (Status::Done, out, ""))
+}
+
 #[test]
 fn tables_of_every_form(rt: HostRuntime) -> Result<(), Fail> {
     for (rest, out) in TABLES {
-        let mut table = String::from_str(rt.alloc(), "%%MatrixMarket ")?;
-        table.push_str(rest)?;
-        let world = World::of("X = read(\"x.mtx\")\nprint(X)", &table);
-        let came = ran::<Int<47>>(rt.alloc(), &["run", "s"], &world)?;
-        assert_eq!(rt; came.status, Status::Done, "at {rest}");
-        assert_eq!(rt; came.out.as_slice(), out.as_bytes(), "at {rest}");
-        assert!(rt; came.err.is_empty(), "at {rest}");
+        assert!(rt; prints(rt.alloc(), rest, out)?, "at {rest}");
     }
     Ok(())
 }
@@ -150,18 +152,20 @@ const REFUSED: [(&str, u8, &str); 19] = [
     ),
 ];
 
+// Whether the table is refused with this exit status and reason.
+fn is_refused(alloc: Global, table: &str, code: u8, reason: &str) -> Result<bool, Fail> {
+    let word = if code == 8 { "limit" } else { "bad file" };
+    let mut line = String::from_str(alloc, word)?;
+    line.push_str(" x.mtx: ")?;
+    line.push_str(reason)?;
+    line.push_str("\n")?;
+    comes_to(alloc, RUN, &World::of(SCRIPT, table), (code, "", &line))
+}
+
 #[test]
 fn refused_tables(rt: HostRuntime) -> Result<(), Fail> {
     for (table, code, reason) in REFUSED {
-        let came = ran::<Int<47>>(rt.alloc(), &["run", "s"], &World::of(SCRIPT, table))?;
-        let word = if code == 8 { "limit" } else { "bad file" };
-        let mut line = String::from_str(rt.alloc(), word)?;
-        line.push_str(" x.mtx: ")?;
-        line.push_str(reason)?;
-        line.push_str("\n")?;
-        assert_eq!(rt; came.code, code, "at {table}");
-        assert!(rt; came.out.is_empty(), "at {table}");
-        assert_eq!(rt; came.err.as_slice(), line.as_bytes(), "at {table}");
+        assert!(rt; is_refused(rt.alloc(), table, code, reason)?, "at {table}");
     }
     Ok(())
 }
