@@ -1,45 +1,52 @@
 //! Tables that are read while one call alone fails.
 
-ghost use Rattle.std.specs.Prelude.{◌≤◌};
-
 use crate::heads::{ARRAY, GENERAL, NONE};
-use crate::table_files::{Answer, is_matrix, joined, one_file, read_from};
+use crate::table_files::{Answer, is_fault, joined, one_file, read_from, spells};
 use crate::tables::{COLS, ROWS, array_text, cells};
 use cla_io::{CallKind, Drip};
 use cla_mtx::MtxFault;
 use std::alloc::Global;
-use std::process::Abort;
 use std::test::Fail;
 
 /// How many reads of a test may fail, one after the other.
 const MOST_READS: u64 = 1000;
 
 // What reading a text comes to with its n-th read failing, for the first n where the answer is no
-// fault of reading, and this n. At most so many bytes are read at a time.
-fn until_read(alloc: Global, text: &[u8], most: usize) -> Result<(u64, Answer), Fail>
-    requires { 1 ≤ most }
-{
+// fault of reading, and this n. At most so many bytes, and one at least, are read at a time.
+fn until_read(alloc: Global, text: &[u8], most: usize) -> Result<(u64, Answer), Fail> {
     for n in 1..=MOST_READS {
-        let mut files = Drip::new(one_file(alloc, text, Some((CallKind::Read, n)))?, most);
-        match read_from(alloc, &mut files, "x")? {
-            Err(MtxFault::Read) => (),
-            answer => return Ok((n, answer)),
+        let answer = read_failing(alloc, text, most, n)?;
+        if !is_fault(&answer, MtxFault::Read) {
+            return Ok((n, answer));
         }
     }
     Err(Fail::new("all reads fail"))
 }
 
-// The same for the two pieces of a text that has a fault.
-fn fault_until_read(
+// What reading a text comes to with its n-th read failing.
+fn read_failing(alloc: Global, text: &[u8], most: usize, n: u64) -> Result<Answer, Fail> {
+    let held = one_file(alloc, text, Some((CallKind::Read, n)))?;
+    let mut files = Drip::new(held, most.max(1));
+    read_from(alloc, &mut files, "x")
+}
+
+// Whether more than so many reads may fail, and the text has this fault then.
+fn fault_needs(
     alloc: Global,
     text: (&str, &str),
     most: usize,
-) -> Result<(u64, Option<MtxFault>), Fail>
-    requires { 1 ≤ most }
-{
+    reads: u64,
+    want: MtxFault,
+) -> Result<bool, Fail> {
     let text = joined(alloc, text.0, text.1)?;
     let (n, answer) = until_read(alloc, text.as_bytes(), most)?;
-    Ok((n, answer.err()))
+    Ok(is_fault(&answer, want) && reads < n)
+}
+
+// Whether more than so many reads may fail, and the text spells the matrix of two rows and columns then.
+fn good_needs(alloc: Global, text: &str, most: usize, reads: u64) -> Result<bool, Fail> {
+    let (n, answer) = until_read(alloc, text.as_bytes(), most)?;
+    Ok(spells(&answer, 2, 2, &[0, 7, 0, 0]) && reads < n)
 }
 
 // A good text needs each byte and the end: with one byte a read, each of these reads may fail.
@@ -53,9 +60,10 @@ fn each_read_of_a_good_text(rt: HostRuntime) -> Result<(), Fail> {
     )?;
     let bytes = text.len() as u64;
     for (most, reads) in [(1, bytes), (7, bytes / 7), (65_536, 1)] {
-        let (n, answer) = until_read(alloc, text.as_bytes(), most)?;
-        assert!(rt; is_matrix(&answer?, 2, 2, &[0, 7, 0, 0]), "at {most}");
-        assert!(rt; reads + 1 < n, "at {most}");
+        assert!(rt;
+            good_needs(alloc, &text, most, reads.saturating_add(1))?,
+            "at {most}"
+        );
     }
     Ok(())
 }
@@ -94,32 +102,36 @@ const FAULTY: [Faulty; 7] = [
     ),
 ];
 
-fn need_reads(rt: &impl Abort, alloc: Global, table: &[Faulty]) -> Result<(), Fail> {
-    for (head, rest, reads, want) in table {
-        let (n, fault) = fault_until_read(alloc, (*head, *rest), 1)?;
-        assert_eq!(rt; fault, Some(*want), "{head}{rest}");
-        assert!(rt; *reads < n, "{head}{rest}");
-        let (_, fault) = fault_until_read(alloc, (*head, *rest), 65_536)?;
-        assert_eq!(rt; fault, Some(*want), "{head}{rest}");
-    }
-    Ok(())
+// Whether the text has its fault, read by one byte with so many reads before it, and at once.
+fn needs_reads(alloc: Global, faulty: Faulty) -> Result<bool, Fail> {
+    let (head, rest, reads, want) = faulty;
+    Ok(
+        fault_needs(alloc, (head, rest), 1, reads, want)?
+            && fault_needs(alloc, (head, rest), 65_536, 0, want)?,
+    )
 }
 
 #[test]
 fn each_read_of_a_bad_text(rt: HostRuntime) -> Result<(), Fail> {
-    need_reads(&rt, rt.alloc(), &FAULTY)
+    for faulty in FAULTY {
+        let (head, rest, ..) = faulty;
+        assert!(rt; needs_reads(rt.alloc(), faulty)?, "{head}{rest}");
+    }
+    Ok(())
+}
+
+// Whether the table by formula is read once more than so many reads failed.
+fn formula_needs(alloc: Global, most: usize) -> Result<bool, Fail> {
+    let text = array_text(alloc)?;
+    let (n, answer) = until_read(alloc, text.as_bytes(), most)?;
+    let reads = text.len().checked_div(most).ok_or("a byte")? as u64;
+    Ok(spells(&answer, ROWS, COLS, &cells(alloc)?) && reads.saturating_add(1) < n)
 }
 
 #[test]
 fn each_read_of_a_table_longer_than_the_buffer(rt: HostRuntime) -> Result<(), Fail> {
-    let alloc = rt.alloc();
-    let text = array_text(alloc)?;
-    let want = cells(alloc)?;
-    let bytes = text.len() as u64;
     for most in [4096, 65_536] {
-        let (n, answer) = until_read(alloc, text.as_bytes(), most)?;
-        assert!(rt; is_matrix(&answer?, ROWS, COLS, &want), "at {most}");
-        assert!(rt; bytes / most as u64 + 1 < n, "at {most}");
+        assert!(rt; formula_needs(rt.alloc(), most)?, "at {most}");
     }
     Ok(())
 }

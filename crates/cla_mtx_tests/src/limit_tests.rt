@@ -4,7 +4,7 @@ ghost use Rattle.std.specs.Prelude.{◌≡◌, None};
 
 use crate::good_texts::{ARRAYS, GENERALS, Good, MIRRORED, SKIPPED};
 use crate::heads::{ARRAY, GENERAL, NONE};
-use crate::table_files::{Answer, is_matrix, joined, one_file, read_up_to};
+use crate::table_files::{Answer, is_fault, joined, one_file, read_up_to, spells};
 use cla_io::{Files, InFault, Input};
 use cla_mtx::MtxFault;
 use std::alloc::Global;
@@ -20,21 +20,26 @@ fn limited(alloc: Global, text: &[u8], limit: u64) -> Result<Answer, Fail> {
     read_up_to(alloc, &mut files, "x", limit)
 }
 
-// The first fault of the two pieces of a text, of which at most `limit` bytes are taken.
-fn limited_fault(alloc: Global, text: (&str, &str), limit: u64) -> Result<Option<MtxFault>, Fail> {
+// Whether the two pieces of a text, of which at most `limit` bytes are taken, have this fault.
+fn has_fault(alloc: Global, text: (&str, &str), limit: u64, want: MtxFault) -> Result<bool, Fail> {
     let text = joined(alloc, text.0, text.1)?;
-    Ok(limited(alloc, text.as_bytes(), limit)?.err())
+    Ok(is_fault(&limited(alloc, text.as_bytes(), limit)?, want))
 }
 
-// A good text is needed whole: no byte of it may lie past the limit.
+// Whether a good text is needed whole: no byte of it may lie past the limit.
+fn needs_all_bytes(alloc: Global, good: Good) -> Result<bool, Fail> {
+    let (head, rest, rows, cols, cells) = good;
+    let text = joined(alloc, head, rest)?;
+    let bytes = text.len() as u64;
+    let whole = limited(alloc, text.as_bytes(), bytes)?;
+    let cut = limited(alloc, text.as_bytes(), bytes.saturating_sub(1))?;
+    Ok(spells(&whole, rows, cols, cells) && is_fault(&cut, MtxFault::TooLong))
+}
+
 fn need_all_bytes(rt: &impl Abort, alloc: Global, table: &[Good]) -> Result<(), Fail> {
-    for (head, rest, rows, cols, cells) in table {
-        let text = joined(alloc, head, rest)?;
-        let bytes = text.len() as u64;
-        let m = limited(alloc, text.as_bytes(), bytes)??;
-        assert!(rt; is_matrix(&m, *rows, *cols, cells), "{text}");
-        let fault = limited(alloc, text.as_bytes(), bytes.saturating_sub(1))?.err();
-        assert_eq!(rt; fault, Some(MtxFault::TooLong), "{text}");
+    for good in table {
+        let (head, rest, ..) = *good;
+        assert!(rt; needs_all_bytes(alloc, *good)?, "{head}{rest}");
     }
     Ok(())
 }
@@ -101,12 +106,20 @@ const LIMITED: [Limited; 9] = [
     ),
 ];
 
+// Whether the text has its fault at the least limit, and is too long below it.
+fn stands_from(alloc: Global, limited: Limited) -> Result<bool, Fail> {
+    let (head, rest, least, want) = limited;
+    let less = least.saturating_sub(1);
+    Ok(
+        has_fault(alloc, (head, rest), least, want)?
+            && has_fault(alloc, (head, rest), less, MtxFault::TooLong)?,
+    )
+}
+
 fn stand_from(rt: &impl Abort, alloc: Global, table: &[Limited]) -> Result<(), Fail> {
-    for (head, rest, least, want) in table {
-        let fault = limited_fault(alloc, (*head, *rest), *least)?;
-        assert_eq!(rt; fault, Some(*want), "{head}{rest}");
-        let fault = limited_fault(alloc, (*head, *rest), least.saturating_sub(1))?;
-        assert_eq!(rt; fault, Some(MtxFault::TooLong), "{head}{rest}");
+    for limited in table {
+        let (head, rest, ..) = *limited;
+        assert!(rt; stands_from(alloc, *limited)?, "{head}{rest}");
     }
     Ok(())
 }
@@ -128,15 +141,16 @@ fn first_line<F: Files>(alloc: Global, files: &mut F) -> Result<Result<bool, InF
     Ok(input.next_line())
 }
 
+// Whether the first line of a text, and so the text, is past a limit of 40 bytes.
+fn is_past_forty(alloc: Global, text: &[u8]) -> Result<bool, Fail> {
+    let mut files = one_file(alloc, text, None)?;
+    let is_past = first_line(alloc, &mut files)? == Err(InFault::TooLong);
+    Ok(is_past && is_fault(&limited(alloc, text, 40)?, MtxFault::TooLong))
+}
+
 #[test]
 fn a_first_line_past_the_limit(rt: HostRuntime) -> Result<(), Fail> {
-    let alloc = rt.alloc();
-    let text = joined(alloc, GENERAL, "8193 8193 0\n")?;
-    let mut files = one_file(alloc, text.as_bytes(), None)?;
-    assert_eq!(rt; first_line(alloc, &mut files)?, Err(InFault::TooLong));
-    assert_eq!(rt;
-        limited(alloc, text.as_bytes(), 40)?.err(),
-        Some(MtxFault::TooLong)
-    );
+    let text = joined(rt.alloc(), GENERAL, "8193 8193 0\n")?;
+    assert!(rt; is_past_forty(rt.alloc(), text.as_bytes())?);
     Ok(())
 }

@@ -134,6 +134,22 @@ pub(crate) fn is_matrix(m: &Dense<Entry>, rows: u32, cols: u32, cells: &[i64]) -
     true
 }
 
+/// Whether reading came to the matrix of so many rows and columns and these cells.
+pub(crate) fn spells(answer: &Answer, rows: u32, cols: u32, cells: &[i64]) -> bool {
+    match answer {
+        Ok(m) => is_matrix(m, rows, cols, cells),
+        Err(_) => false,
+    }
+}
+
+/// Whether reading came to this fault.
+pub(crate) fn is_fault(answer: &Answer, want: MtxFault) -> bool {
+    match answer {
+        Ok(_) => false,
+        Err(fault) => *fault == want,
+    }
+}
+
 /// Whether two matrices have the same rows, columns and cells.
 pub(crate) fn are_same(one: &Dense<Entry>, other: &Dense<Entry>) -> bool {
     one.rows() == other.rows() && one.cols() == other.cols() && one.cells() == other.cells()

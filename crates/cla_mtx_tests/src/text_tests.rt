@@ -5,26 +5,36 @@ use crate::bad_texts::{
     UNSUPPORTED, Unsupported,
 };
 use crate::good_texts::{ARRAYS, BANNERS, GENERALS, Good, MIRRORED, SKIPPED};
-use crate::table_files::{is_matrix, joined, read_text};
+use crate::table_files::{Answer, is_fault, joined, read_text, spells};
 use cla_mtx::MtxFault;
 use std::alloc::Global;
 use std::process::Abort;
 use std::test::Fail;
 
-// The first fault of a text, if it has one.
-fn first_fault(alloc: Global, head: &str, rest: &str) -> Result<Option<MtxFault>, Fail> {
+// What reading the two pieces of a text comes to.
+fn read_joined(alloc: Global, head: &str, rest: &str) -> Result<Answer, Fail> {
     let text = joined(alloc, head, rest)?;
-    Ok(read_text(alloc, text.as_bytes())?.err())
+    read_text(alloc, text.as_bytes())
+}
+
+// The text has this fault first.
+fn has_fault(
+    rt: &impl Abort,
+    alloc: Global,
+    text: (&str, &str),
+    want: MtxFault,
+) -> Result<(), Fail> {
+    let (head, rest) = text;
+    let answer = read_joined(alloc, head, rest)?;
+    assert!(rt; is_fault(&answer, want), "{want:?} at {head}{rest}");
+    Ok(())
 }
 
 // Each text spells its matrix.
 fn spell(rt: &impl Abort, alloc: Global, table: &[Good]) -> Result<(), Fail> {
     for (head, rest, rows, cols, cells) in table {
-        let text = joined(alloc, head, rest)?;
-        match read_text(alloc, text.as_bytes())? {
-            Ok(m) => assert!(rt; is_matrix(&m, *rows, *cols, cells), "{text}"),
-            Err(fault) => assert!(rt; false, "{fault:?} at {text}"),
-        }
+        let answer = read_joined(alloc, head, rest)?;
+        assert!(rt; spells(&answer, *rows, *cols, cells), "{head}{rest}");
     }
     Ok(())
 }
@@ -44,16 +54,19 @@ fn matrices_of_other_files(rt: HostRuntime) -> Result<(), Fail> {
 
 fn have_no_banner(rt: &impl Abort, alloc: Global, table: &[&str]) -> Result<(), Fail> {
     for text in table {
-        let fault = first_fault(alloc, text, "")?;
-        assert_eq!(rt; fault, Some(MtxFault::Banner { line: 1 }), "{text}");
+        has_fault(rt, alloc, (*text, ""), MtxFault::Banner { line: 1 })?;
     }
     Ok(())
 }
 
 fn are_unsupported(rt: &impl Abort, alloc: Global, table: &[Unsupported]) -> Result<(), Fail> {
     for (text, place) in table {
-        let want = MtxFault::Unsupported { place: *place };
-        assert_eq!(rt; first_fault(alloc, text, "")?, Some(want), "{text}");
+        has_fault(
+            rt,
+            alloc,
+            (*text, ""),
+            MtxFault::Unsupported { place: *place },
+        )?;
     }
     Ok(())
 }
@@ -90,8 +103,7 @@ fn fault_at(kind: Kind, line: u64) -> MtxFault {
 
 fn are_bad(rt: &impl Abort, alloc: Global, table: &[Bad], kind: Kind) -> Result<(), Fail> {
     for (head, rest, line) in table {
-        let fault = first_fault(alloc, head, rest)?;
-        assert_eq!(rt; fault, Some(fault_at(kind, *line)), "{head}{rest}");
+        has_fault(rt, alloc, (*head, *rest), fault_at(kind, *line))?;
     }
     Ok(())
 }
@@ -99,8 +111,7 @@ fn are_bad(rt: &impl Abort, alloc: Global, table: &[Bad], kind: Kind) -> Result<
 fn are_too_large(rt: &impl Abort, alloc: Global, table: &[TooLarge]) -> Result<(), Fail> {
     for (head, rest, rows, cols) in table {
         let (rows, cols) = (*rows, *cols);
-        let want = MtxFault::TooLarge { rows, cols };
-        assert_eq!(rt; first_fault(alloc, head, rest)?, Some(want), "{head}{rest}");
+        has_fault(rt, alloc, (*head, *rest), MtxFault::TooLarge { rows, cols })?;
     }
     Ok(())
 }

@@ -5,7 +5,7 @@ ghost use Rattle.std.specs.Prelude.{◌≤◌};
 use crate::good_texts::{ARRAYS, BANNERS, GENERALS, Good, MIRRORED, SKIPPED};
 use crate::heads::{GENERAL, NONE};
 use crate::table_files::{
-    Answer, Entry, are_same, bytes_of, is_matrix, joined, one_file, read_from, read_text, write_to,
+    Answer, Entry, are_same, bytes_of, joined, one_file, read_from, read_text, spells, write_to,
 };
 use crate::tables::{array_text, scattered_cells, scattered_text};
 use cla_io::{CallKind, Drip};
@@ -37,40 +37,39 @@ fn matrix_of(alloc: Global, head: &str, rest: &str) -> Result<Dense<Entry>, Fail
     Ok(read_text(alloc, text.as_bytes())??)
 }
 
-// A matrix is written as this text, to a new file and in the place of one that is there.
-fn writes(rt: &impl Abort, alloc: Global, m: &Dense<Entry>, want: &[u8]) -> Result<(), Fail> {
+// Whether a matrix is written as this text, to a new file and in the place of one that is there.
+fn writes(alloc: Global, m: &Dense<Entry>, want: &[u8]) -> Result<bool, Fail> {
     let mut files = one_file(alloc, b"old", None)?;
-    for name in ["y", "x"] {
-        assert_eq!(rt; write_to(alloc, &mut files, name, m)?, Ok(()));
-        assert_eq!(rt; files.bytes(name), Some(want));
-    }
-    Ok(())
+    let to_new = write_to(alloc, &mut files, "y", m)?.is_ok();
+    let to_old = write_to(alloc, &mut files, "x", m)?.is_ok();
+    let is_new = files.bytes("y") == Some(want);
+    Ok(to_new && to_old && is_new && files.bytes("x") == Some(want))
 }
 
-// What is in a file to which a matrix was written, at most so many bytes at a time.
-fn dripped(alloc: Global, m: &Dense<Entry>, most: usize) -> Result<Vec<u8>, Fail>
-    requires { 1 ≤ most }
-{
-    let mut files = Drip::new(one_file(alloc, b"old", None)?, most);
+// What is in a file to which a matrix was written, at most so many bytes, and one at least, at a time.
+fn dripped(alloc: Global, m: &Dense<Entry>, most: usize) -> Result<Vec<u8>, Fail> {
+    let mut files = Drip::new(one_file(alloc, b"old", None)?, most.max(1));
     write_to(alloc, &mut files, "x", m)??;
     bytes_of(alloc, &mut files, "x")
 }
 
+// Whether the matrix of these entries is written as these lines, all at once and a few bytes at a time.
+fn is_written(alloc: Global, entries: &str, lines: &str) -> Result<bool, Fail> {
+    let m = matrix_of(alloc, GENERAL, entries)?;
+    let want = joined(alloc, GENERAL, lines)?;
+    let one = dripped(alloc, &m, 1)?;
+    let seven = dripped(alloc, &m, 7)?;
+    Ok(
+        writes(alloc, &m, want.as_bytes())?
+            && one.as_slice() == want.as_bytes()
+            && seven.as_slice() == want.as_bytes(),
+    )
+}
+
 #[test]
 fn texts_that_are_written(rt: HostRuntime) -> Result<(), Fail> {
-    let alloc = rt.alloc();
     for (entries, lines) in WRITTEN {
-        let m = matrix_of(alloc, GENERAL, entries)?;
-        let want = joined(alloc, GENERAL, lines)?;
-        writes(&rt, alloc, &m, want.as_bytes())?;
-        assert!(rt;
-            dripped(alloc, &m, 1)?.as_slice() == want.as_bytes(),
-            "{want}"
-        );
-        assert!(rt;
-            dripped(alloc, &m, 7)?.as_slice() == want.as_bytes(),
-            "{want}"
-        );
+        assert!(rt; is_written(rt.alloc(), entries, lines)?, "{lines}");
     }
     Ok(())
 }
@@ -84,65 +83,77 @@ fn written(
     m: &Dense<Entry>,
     most: usize,
     n: u64,
-) -> Result<(Result<(), OutFault>, Vec<u8>), Fail>
-    requires { 1 ≤ most }
-{
-    let mut files = Drip::new(one_file(alloc, b"old", Some((CallKind::Write, n)))?, most);
+) -> Result<(Result<(), OutFault>, Vec<u8>), Fail> {
+    let held = one_file(alloc, b"old", Some((CallKind::Write, n)))?;
+    let mut files = Drip::new(held, most.max(1));
     let answer = write_to(alloc, &mut files, "x", m)?;
     Ok((answer, bytes_of(alloc, &mut files, "x")?))
 }
 
-// The number of the first write that may fail while the matrix is written. With each write before
-// failing alone, the answer says so, and the file holds a prefix of the text.
-fn until_written(
-    rt: &impl Abort,
+// Whether the file holds the whole text where the n-th write fails, and the answer says so. Else the answer
+// is a fault, and the file holds a prefix of the text.
+fn is_whole(
     alloc: Global,
     m: &Dense<Entry>,
     text: &[u8],
     most: usize,
-) -> Result<u64, Fail>
-    requires { 1 ≤ most }
-{
+    n: u64,
+) -> Result<bool, Fail> {
+    let (answer, bytes) = written(alloc, m, most, n)?;
+    let is_whole = bytes.len() == text.len();
+    let want = if is_whole {
+        Ok(())
+    } else {
+        Err(OutFault::Write)
+    };
+    if !text.starts_with(&bytes) || answer != want {
+        return Err(Fail::new("another answer, or other bytes"));
+    }
+    Ok(is_whole)
+}
+
+// The number of the first write that may fail while the matrix is written. With each write before
+// failing alone, the answer says so, and the file holds a prefix of the text.
+fn until_written(alloc: Global, m: &Dense<Entry>, text: &[u8], most: usize) -> Result<u64, Fail> {
     for n in 1..=MOST_WRITES {
-        let (answer, bytes) = written(alloc, m, most, n)?;
-        assert!(rt; text.starts_with(&bytes), "at {n}");
-        if bytes.len() == text.len() {
-            assert_eq!(rt; answer, Ok(()), "at {n}");
+        if is_whole(alloc, m, text, most, n)? {
             return Ok(n);
         }
-        assert_eq!(rt; answer, Err(OutFault::Write), "at {n}");
     }
     Err(Fail::new("all writes fail"))
 }
 
+// Whether each write of the matrix of these entries may fail, where at most so many bytes are written at a
+// time, and twice where all are.
+fn needs_writes(alloc: Global, entries: &str, lines: &str) -> Result<bool, Fail> {
+    let m = matrix_of(alloc, GENERAL, entries)?;
+    let want = joined(alloc, GENERAL, lines)?;
+    let text = want.as_bytes();
+    let bytes = text.len() as u64;
+    Ok(
+        bytes < until_written(alloc, &m, text, 1)?
+            && bytes / 7 < until_written(alloc, &m, text, 7)?
+            && 1 < until_written(alloc, &m, text, 65_536)?,
+    )
+}
+
 #[test]
 fn each_write_of_a_text(rt: HostRuntime) -> Result<(), Fail> {
-    let alloc = rt.alloc();
     for (entries, lines) in WRITTEN {
-        let m = matrix_of(alloc, GENERAL, entries)?;
-        let want = joined(alloc, GENERAL, lines)?;
-        let bytes = want.len() as u64;
-        for (most, writes) in [(1, bytes), (7, bytes / 7), (65_536, 1)] {
-            let n = until_written(&rt, alloc, &m, want.as_bytes(), most)?;
-            assert!(rt; writes < n, "at {most} of {want}");
-        }
+        assert!(rt; needs_writes(rt.alloc(), entries, lines)?, "{lines}");
     }
     Ok(())
 }
 
 // What reading the file comes to, to which a matrix was written.
-fn written_and_read(alloc: Global, m: &Dense<Entry>, most: usize) -> Result<Answer, Fail>
-    requires { 1 ≤ most }
-{
-    let mut files = Drip::new(one_file(alloc, b"old", None)?, most);
+fn written_and_read(alloc: Global, m: &Dense<Entry>, most: usize) -> Result<Answer, Fail> {
+    let mut files = Drip::new(one_file(alloc, b"old", None)?, most.max(1));
     write_to(alloc, &mut files, "y", m)??;
     read_from(alloc, &mut files, "y")
 }
 
-// The matrix of a text is read again from the file to which it was written.
-fn reads_again(alloc: Global, head: &str, rest: &str, most: usize) -> Result<bool, Fail>
-    requires { 1 ≤ most }
-{
+// Whether the matrix of a text is read again from the file to which it was written.
+fn reads_again(alloc: Global, head: &str, rest: &str, most: usize) -> Result<bool, Fail> {
     let m = matrix_of(alloc, head, rest)?;
     let again = written_and_read(alloc, &m, most)??;
     Ok(are_same(&m, &again))
@@ -189,14 +200,24 @@ fn large_matrices_are_read_again(rt: HostRuntime) -> Result<(), Fail> {
     Ok(())
 }
 
+// Whether the sums of the scattered entries are read.
+fn scattered_spells(alloc: Global, rows: u32, cols: u32) -> Result<bool, Fail>
+    requires some_rows { 1 ≤ rows }
+    requires some_cols { 1 ≤ cols }
+{
+    let text = scattered_text(alloc, rows, cols)?;
+    let answer = read_text(alloc, text.as_bytes())?;
+    Ok(spells(&answer, rows, cols, &scattered_cells(alloc, rows, cols)?))
+}
+
 // Sums of few cells and of many, and the step from the one form to the other.
 #[test]
 fn sums_of_scattered_entries(rt: HostRuntime) -> Result<(), Fail> {
-    let alloc = rt.alloc();
     for (rows, cols) in SHAPES {
-        let m = read_text(alloc, scattered_text(alloc, rows, cols)?.as_bytes())??;
-        let want = scattered_cells(alloc, rows, cols)?;
-        assert!(rt; is_matrix(&m, rows, cols, &want), "{rows} by {cols}");
+        assert!(rt;
+            scattered_spells(rt.alloc(), rows, cols)?,
+            "{rows} by {cols}"
+        );
     }
     Ok(())
 }
