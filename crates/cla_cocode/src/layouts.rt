@@ -18,7 +18,7 @@ use cla_stats::Tuples;
 use std::alloc::Global;
 
 // So many columns are counted together: their cells in a row are read at once.
-const COLUMNS_AT_ONCE: u32 = 8;
+const COLUMNS_AT_ONCE: u32 = 16;
 
 // More columns than this are not grouped.
 const MOST_GROUPED: u32 = 1 << 16;

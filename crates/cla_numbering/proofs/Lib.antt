@@ -3,3 +3,4 @@ pub mod ColumnLemmas
 pub mod MapLemmas
 pub mod GatherLemmas
 pub mod PlaceLemmas
+pub mod TogetherLemmas

@@ -21,7 +21,7 @@ number_of-bytes_of (suc k) n lt =
     rw (number_of-bytes_of k (n / 256) part) (omega arith)
 
 -- values of less than 64 bits
-abbrev Fits : ℤ → Type 0
+abbrev pub Fits : ℤ → Type 0
 Fits v = unsigned_abs v < 2 ^ 63
 
 unsigned-below : (v : ℤ) → Fits v → unsigned_of 8 v < past 8
@@ -41,12 +41,17 @@ place-same u v h g e = unsigned-same u v h g
     (sym (number_of-bytes_of 8 (unsigned_of 8 u) (unsigned-below u h)) ∙ e
     ∙ number_of-bytes_of 8 (unsigned_of 8 v) (unsigned-below v g))
 
-places-tell : (u v : ℤ) → Fits u → Fits v → nat_eq (place_in u) (place_in v) ≡ int_eq u v
+pub places-tell : (u v : ℤ) → Fits u → Fits v → nat_eq (place_in u) (place_in v) ≡ int_eq u v
 places-tell u v h g = same_from_decides (nat_eq (place_in u) (place_in v)) (int_eq u v)
     (λ e. place-same u v h g (eqb-true (place_in u) (place_in v) e), λ e. eq-eqb (place_in u) (place_in v) (ap place_in e))
     (Decides-int_eq u v)
 
-fits : (bits : ℕ) (v : ℤ) → bits ≤ GREATEST_BITS → InRange bits v → Fits v
+-- zero stands at the first place
+pub place-zero : place_in (pos 0) ≡ 0
+unfolding place_in
+place-zero = number_of-bytes_of 8 0 (omega arith)
+
+pub fits : (bits : ℕ) (v : ℤ) → bits ≤ GREATEST_BITS → InRange bits v → Fits v
 fits bits v few within =
     let least : bits ≤ 63 = omega (arith, few) in
     let two : zero < 2 = omega arith in

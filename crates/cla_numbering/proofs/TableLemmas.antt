@@ -8,12 +8,9 @@ use Rattle.std.proofs.lemmas.List.FromFn.{get_or-map-range_with_len, length-rang
 use Rattle.cla_layout.specs.Groups.{code_of}
 use Rattle.cla_grouping.specs.Numbering.{with_item, codes_from, firsts_from, codes_by, same_pair}
 use Rattle.cla_numbering.specs.Tables.{no_number, number_at, number_put, table_put, next_put, place_at}
+use Rattle.cla_numbering.specs.Together.{number_or}
 use Rattle.cla_grouping.proofs.CodeLemmas.{codes_from-map, firsts_from-map, position-within}
 use Rattle.cla_grouping.proofs.JoinLemmas.{codes_by-same, first_rows-same}
-
--- the number of a place, where it was seen
-abbrev pub number_or : List ℕ → ℕ → ℕ
-number_or seen p = cond (list_any (nat_eq p) seen) (position_or_len (nat_eq p) seen) no_number
 
 -- the table numbers what was seen, and the codes so far and those of what is left are all codes
 pub record IsNumbered (table codes : List ℕ) (next : ℕ) (left all : List ℕ) : Type 0 where

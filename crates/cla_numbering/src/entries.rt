@@ -28,9 +28,9 @@ pub fn number_entries<N: Number>(alloc: Global, items: &[N]) -> Result<Numbered,
     }
 }
 
-// The place of an entry in a table: its value, or a number past all tables where that is below 0.
+/// The place of an entry in a table: its value, or a number past all tables where that is below 0.
 #[tactic(auto, unfolding(crate::specs::Columns::place_in))]
-fn place_of<N: Number>(item: N) -> u64
+pub(crate) fn place_of<N: Number>(item: N) -> u64
     ensures { result ≡ place_in (N.value item) }
 {
     u64::from_le_bytes(item.to_le())

@@ -9,10 +9,12 @@ mod map;
 mod numbered;
 mod pairs;
 mod table;
+mod together;
 
 pub use column::entries_of;
 pub use entries::number_entries;
 pub use gather::gathered;
-pub use numbered::{NO_NUMBER, Numbered, PLACES_A_ROW};
+pub use numbered::{NO_NUMBER, Numbered, NumberedColumn, PLACES_A_ROW};
 pub use pairs::number_pairs;
 pub use table::number_place;
+pub use together::number_together;

@@ -2,3 +2,4 @@ mod Tallies
 mod Firsts
 mod Made
 mod Columns
+mod NumberedColumns

@@ -1,5 +1,5 @@
 -- The tuples of columns, as they are kept.
-use Rattle.std.specs.Prelude.{◌≡◌, ℕ, ℤ, pos, ◌+◌, ◌*◌, ◌<◌, ◌≤◌, List, [], ◌∷◌, length, map, slice_index_or, Bool, ◌==◌}
+use Rattle.std.specs.Prelude.{◌≡◌, ℕ, ℤ, pos, ◌+◌, ◌*◌, ◌<◌, ◌≤◌, List, [], ◌∷◌, length, map, slice_index_or, Bool, ◌==◌, nat_eq, Option, Some, None, if◌then◌else◌}
 use Rattle.std.specs.List.{range_with_len}
 use Rattle.std.specs.Ordering.{int_eq}
 use Rattle.cla_spec.specs.Matrix.{Matrix, most_cells}
@@ -7,11 +7,26 @@ use Rattle.cla_layout.specs.Groups.{code_of}
 use Rattle.cla_layout.specs.Listed.{rows_where, begins_run, run_begins}
 use Rattle.cla_grouping.specs.Tuples.{TuplesOf, tuples_in}
 use Rattle.cla_numbering.specs.Columns.{column_of}
+use Rattle.cla_numbering.specs.Tables.{no_number, number_at}
+use Rattle.cla_numbering.specs.declared.numbered.NumberedColumn.{NumberedColumn}
 use Rattle.cla_stats.specs.declared.coded.Coded.{Coded}
 
 -- the tuples, as contracts see them
 abbrev pub tuples_seen : Coded → TuplesOf
 tuples_seen c = record { width = c.width; distinct = c.distinct; codes = c.codes.items; zero = c.zero }
+
+-- the number of the place 0, where it has one
+abbrev pub zero_numbered : List ℕ → Option ℕ
+zero_numbered table = if nat_eq (number_at table 0) no_number then None else Some (number_at table 0)
+
+-- the tuples of a column that is numbered
+abbrev pub tuples_numbered : NumberedColumn → TuplesOf
+tuples_numbered column = record {
+  width = 1;
+  distinct = column.distinct;
+  codes = column.codes.items;
+  zero = zero_numbered column.table.items;
+}
 
 -- these are the tuples of any column with these entries
 abbrev pub AreTuplesOf : List ℤ → TuplesOf → Type 0

@@ -6,10 +6,12 @@ ghost use Rattle.cla_spec.specs.Matrix.{IsShaped, most_cells};
 ghost use Rattle.cla_layout.specs.Groups.{code_of};
 ghost use Rattle.cla_layout.specs.Listed.{is_rest};
 ghost use Rattle.cla_grouping.specs.Tuples.{AreColumns, AreTuples, code_where, tuples_in, joined};
-ghost use Rattle.cla_stats.specs.Coded.{tuples_seen, AreTuplesOf, is_zero_at, CanJoin};
+ghost use Rattle.cla_stats.specs.Coded.{tuples_seen, tuples_numbered, zero_numbered, AreTuplesOf, is_zero_at, CanJoin};
 
 use cla_num::{Dense, Memory, Number, Wide};
-use cla_numbering::{Numbered, entries_of, number_entries, number_pairs};
+use cla_numbering::{
+    NO_NUMBER, Numbered, NumberedColumn, entries_of, number_entries, number_pairs,
+};
 use std::alloc::Global;
 
 /// Columns, how many distinct tuples they have, the code of each row's tuple, and the code of the tuple
@@ -66,6 +68,35 @@ pub fn code_entries<N: Number>(alloc: Global, items: &[N]) -> Result<Coded, Memo
         codes,
         zero,
     })
+}
+
+/// The tuples of a column that is numbered.
+pub fn code_numbered(column: NumberedColumn) -> Coded
+    ensures { tuples_seen result ≡ tuples_numbered column }
+{
+    let zero = number_of_zero(&column.table);
+    let NumberedColumn {
+        codes,
+        distinct,
+        ..
+    } = column;
+    Coded {
+        width: 1,
+        distinct,
+        codes,
+        zero,
+    }
+}
+
+// The number of the place 0, if it has one.
+fn number_of_zero(table: &[u32]) -> Option<u32>
+    ensures { result ≡ zero_numbered table.now }
+{
+    if table.is_empty() || table[0] == NO_NUMBER {
+        None
+    } else {
+        Some(table[0])
+    }
 }
 
 // The code of the first zero of these entries, if there is one.

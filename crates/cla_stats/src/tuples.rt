@@ -3,12 +3,14 @@
 ghost use Rattle.std.specs.Prelude.{◌≡◌, ◌-◌, ◌<◌, ◌≤◌, length, IfOk};
 ghost use Rattle.cla_layout.specs.Groups.{occurrences_of};
 ghost use Rattle.cla_grouping.specs.Tuples.{AreColumns, AreTuples, tuples_in, joined};
+ghost use Rattle.cla_num.specs.declared.number.TheConstants.{GREATEST_BITS};
+ghost use Rattle.cla_numbering.specs.Together.{AreNumberedTo};
 ghost use Rattle.cla_stats.specs.Coded.{tuples_seen, tuples_of_each, runs_of, CanJoin};
 
-use crate::coded::{Coded, code_columns, code_entries, join_codes};
+use crate::coded::{Coded, code_columns, code_entries, code_numbered, join_codes};
 use crate::counts::{Counts, count_codes};
 use cla_num::{Dense, Memory, Number};
-use cla_numbering::gathered;
+use cla_numbering::{NumberedColumn, gathered, number_together};
 use std::alloc::Global;
 use std::marker::Model;
 
@@ -44,8 +46,8 @@ impl Tuples {
     }
 
     /// The tuples of each of the columns from `first` on and before `past`, by itself. The matrix is gone over once
-    /// for all of them, and the cells that stand side by side in a row are read together. It takes 8 bytes a cell
-    /// while it works.
+    /// for all of them, and the cells that stand side by side in a row are read together. Where a value is below 0 or
+    /// not below 4,096, they are gone over once more, and it takes 8 bytes a cell while it works.
     pub fn count_each<N: Number>(
         alloc: Global,
         m: &Dense<N>,
@@ -56,13 +58,10 @@ impl Tuples {
         requires within { past ≤ m.now.cols }
         ensures { IfOk result (λ v. v.items ≡ tuples_of_each m.now first (past - first)) }
     {
-        // The cells tell that there are few rows.
-        let _ = m.cells();
-        let mut each = Vec::with_capacity(alloc, (past - first) as usize)?;
-        for items in gathered(alloc, m, first, past)? {
-            each.push(counted(alloc, code_entries(alloc, &items)?)?)?;
+        match number_together(alloc, m, first, past)? {
+            Some(columns) => count_numbered(alloc, m, first, columns),
+            None => count_gathered(alloc, m, first, past),
         }
-        Ok(each)
     }
 
     /// The pairs of the tuples of two groups of columns with the same rows, as for the columns of both
@@ -135,4 +134,44 @@ fn counted(alloc: Global, coded: Coded) -> Result<Tuples, Memory>
 {
     let counts = count_codes(alloc, &coded.codes, coded.distinct)?;
     Ok(Tuples { coded, counts })
+}
+
+// The tuples of columns that are numbered, from the first on.
+fn count_numbered<N: Number>(
+    alloc: Global,
+    m: &Dense<N>,
+    first: u32,
+    columns: Vec<NumberedColumn>,
+) -> Result<Vec<Tuples>, Memory>
+    requires bits { N.BITS ≤ GREATEST_BITS }
+    requires numbered { AreNumberedTo m.now first (λ _. m.now.rows) columns.items }
+    ensures { IfOk result (λ v. v.items ≡ tuples_of_each m.now first (length columns.items)) }
+{
+    // The cells tell that there are few rows, and that their numbers are in range.
+    let _ = m.cells();
+    let mut each = Vec::with_capacity(alloc, columns.len())?;
+    for column in columns {
+        each.push(counted(alloc, code_numbered(column))?)?;
+    }
+    Ok(each)
+}
+
+// The tuples of each of the columns from `first` on and before `past`, whose entries are brought together first.
+fn count_gathered<N: Number>(
+    alloc: Global,
+    m: &Dense<N>,
+    first: u32,
+    past: u32,
+) -> Result<Vec<Tuples>, Memory>
+    requires order { first ≤ past }
+    requires within { past ≤ m.now.cols }
+    ensures { IfOk result (λ v. v.items ≡ tuples_of_each m.now first (past - first)) }
+{
+    // The cells tell that there are few rows.
+    let _ = m.cells();
+    let mut each = Vec::with_capacity(alloc, (past - first) as usize)?;
+    for items in gathered(alloc, m, first, past)? {
+        each.push(counted(alloc, code_entries(alloc, &items)?)?)?;
+    }
+    Ok(each)
 }

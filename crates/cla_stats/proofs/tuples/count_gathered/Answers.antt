@@ -3,7 +3,7 @@ use Rattle.std.proofs.lemmas.List.{length_push}
 use Rattle.cla_grouping.specs.Tuples.{AreTuples}
 use Rattle.cla_numbering.specs.Columns.{AreGathered}
 use Rattle.cla_stats.proofs.Columns.{entries-count, shaped, column-are, each-more, next-entries, after-entries}
-use Rattle.cla_stats.proofs.tuples.Tuples.count_each.Goals as goal
+use Rattle.cla_stats.proofs.tuples.count_gathered.Goals as goal
 
 pub code_entries-requires : goal.code_entries-requires
 code_entries-requires g c =

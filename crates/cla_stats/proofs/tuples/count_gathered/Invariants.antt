@@ -2,7 +2,7 @@ use Rattle.std.proofs.Common.{◌≡◌, ◌+◌, ◌-◌, ◌≤◌, length}
 use Rattle.cla_spec.specs.Matrix.{most_cells}
 use Rattle.cla_numbering.specs.Columns.{AreGathered}
 use Rattle.cla_stats.specs.Coded.{tuples_of_each}
-use Rattle.cla_stats.proofs.tuples.Tuples.count_each.Given as goal
+use Rattle.cla_stats.proofs.tuples.count_gathered.Given as goal
 
 -- the tuples of the columns so far are there, and the entries of the others are left
 abbrev pub invariant-loop-items : goal.invariant-loop-items
