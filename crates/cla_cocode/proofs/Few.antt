@@ -293,15 +293,24 @@ distinct-either o q place n most within shared alone = elim (any-found both n) [
 abbrev zeros : TuplesOf → ℕ → Bool
 zeros t i = is_rest t.zero (code_of t.codes i)
 
+turned : (x y : Bool) → (x && y) ≡ (y && x)
+turned true true = refl
+turned true false = refl
+turned false true = refl
+turned false false = refl
+
 either-is : (a b : TuplesOf) → CanJoin a b → either_of a b
-    ≡ either (zeros a) (zeros b) (range_with_len 0 (length a.codes))
+    ≡ either (zeros b) (zeros a) (range_with_len 0 (length a.codes))
 either-is a b pair =
-    ap (λ m. filter (λ i. not (zeros a i)) (range_with_len 0 (length a.codes))
-    ++ filter (zeros a) (filter (λ i. not (zeros b i)) (range_with_len 0 m))) pair.rows
+    ap (λ m. filter (λ i. not (zeros b i)) (range_with_len 0 m)
+    ++ filter (zeros b) (filter (λ i. not (zeros a i)) (range_with_len 0 (length a.codes)))) pair.rows
 
 -- the rows with a pair that is listed, the runs of such pairs, and where these rows are
 pub either-rows : (a b : TuplesOf) → CanJoin a b → length (either_of a b) ≡ (floor_of a b).listed_rows
-either-rows a b pair = ap length (either-is a b pair) ∙ length-rows (zeros a) (zeros b) (length a.codes)
+either-rows a b pair =
+    ap length (either-is a b pair) ∙ length-rows (zeros b) (zeros a) (length a.codes)
+    ∙ rows-same (λ i. not (zeros b i && zeros a i)) (λ i. not (zeros a i && zeros b i)) (length a.codes)
+    (λ i row. ap not (turned (zeros b i) (zeros a i)))
 
 pub either-runs : (a b : TuplesOf) → CanJoin a b
     → length (filter (begins_pair a.zero a.codes b.zero b.codes) (either_of a b)) ≡ (floor_of a b).listed_runs
@@ -309,9 +318,10 @@ either-runs a b pair =
     let begins = begins_pair a.zero a.codes b.zero b.codes in
     let n = length a.codes in
     ap (λ l. length (filter begins l)) (either-is a b pair)
-    ∙ length-either (zeros a) (zeros b) begins (range_with_len 0 n)
-    ∙ rows-same (λ i. not (zeros a i && zeros b i) && begins i) begins n
-    (λ i row. again (not (zeros a i && zeros b i)) (i == 0 || not (same_pair a.codes b.codes (i - 1) i)))
+    ∙ length-either (zeros b) (zeros a) begins (range_with_len 0 n)
+    ∙ rows-same (λ i. not (zeros b i && zeros a i) && begins i) begins n
+    (λ i row. ap (λ t. not t && begins i) (turned (zeros b i) (zeros a i))
+    ∙ again (not (zeros a i && zeros b i)) (i == 0 || not (same_pair a.codes b.codes (i - 1) i)))
   where
     again : (x y : Bool) → (x && (x && y)) ≡ (x && y)
     again true y = refl
@@ -322,12 +332,12 @@ either-below a b pair =
     let n = length a.codes in
     let Below : ℕ → Type 0 = λ i. i < n in
     let all = range-all Below n (λ i row. row) in
-    let second = All-filter (λ i. not (zeros b i)) Below (range_with_len 0 n) all in
+    let first = All-filter (λ i. not (zeros a i)) Below (range_with_len 0 n) all in
     subst (AreBelow n) (sym (either-is a b pair)) (λ i h. All-append Below
-    (filter (λ i. not (zeros a i)) (range_with_len 0 n))
-    (filter (zeros a) (filter (λ i. not (zeros b i)) (range_with_len 0 n)))
-    (All-filter (λ i. not (zeros a i)) Below (range_with_len 0 n) all)
-    (All-filter (zeros a) Below (filter (λ i. not (zeros b i)) (range_with_len 0 n)) second) i 0 h)
+    (filter (λ i. not (zeros b i)) (range_with_len 0 n))
+    (filter (zeros b) (filter (λ i. not (zeros a i)) (range_with_len 0 n)))
+    (All-filter (λ i. not (zeros b i)) Below (range_with_len 0 n) all)
+    (All-filter (zeros b) Below (filter (λ i. not (zeros a i)) (range_with_len 0 n)) first) i 0 h)
 
 -- the pairs of codes in some rows, as places in a table
 map-places : (a b rows : List ℕ) (wide : ℕ) → let first = map (code_of a) rows in
@@ -383,10 +393,13 @@ few-count a b are-a are-b pair =
     let second_below : (i : ℕ) → i < n → code_of b.codes i < wide = λ i h.
     are-b.below i (omega (arith, h, pair.rows)) in
     let class = zero_pairs-class a.zero a.codes b.zero b.codes in
-    let law = distinct-either (zeros a) (zeros b) place n (a.distinct * wide)
+    let law = distinct-either (zeros b) (zeros a) place n (a.distinct * wide)
     (λ i h. place_within (code_of a.codes i) (code_of b.codes i) a.distinct wide (are-a.below i h) (second_below i h))
-    (λ i j hi hj. same-place a.codes b.codes wide i j (class.same i j hi hj))
-    (λ i j hi hj e. class.like i j (place-same a.codes b.codes wide i j (second_below i hi) (second_below j hj) e)) in
+    (λ i j hi hj. same-place a.codes b.codes wide i j
+    (class.same i j (turned (zeros a i) (zeros b i) ∙ hi) (turned (zeros a j) (zeros b j) ∙ hj)))
+    (λ i j hi hj e. turned (zeros b i) (zeros a i)
+    ∙ class.like i j (place-same a.codes b.codes wide i j (second_below i hi) (second_below j hj) e)
+    ∙ turned (zeros a j) (zeros b j)) in
     let Counted : List ℕ → Type 0 = λ l. length (firsts_from nat_eq [] (map place (range_with_len 0 n)))
     ≡ length (firsts_from nat_eq [] (map place l)) + once (nat_lt (length l) n) in
     sym (subst Counted (sym (either-is a b pair)) law) ∙ firsts-of_places a.codes b.codes wide n second_below

@@ -16,6 +16,6 @@ abbrev pub IsListing : TuplesOf → Option (Vec ℕ Global) → Type 0
 IsListing t None = ⊤
 IsListing t (Some rows) = rows.items ≡ listing_of t
 
--- the rows with a pair that is listed: those that the first lists, and of those that the second does the others
+-- the rows with a pair that is listed: those that the second lists, and of those that the first does the others
 abbrev pub either_of : TuplesOf → TuplesOf → List ℕ
-either_of a b = listing_of a ++ filter (λ i. is_rest a.zero (code_of a.codes i)) (listing_of b)
+either_of a b = listing_of b ++ filter (λ i. is_rest b.zero (code_of b.codes i)) (listing_of a)

@@ -54,7 +54,8 @@ fn weigh_all(alloc: Global, group: &Kept, single: &Kept, target: u64) -> Result<
     Ok(Some(union.bytes))
 }
 
-// The same, over the rows that one or the other lists.
+// The same, over the rows that one or the other lists. It asks for codes of the column, which is weighed against many
+// groups and so is at hand, in the rows that the group lists.
 fn weigh_few(
     alloc: Global,
     group: &Kept,
@@ -71,7 +72,7 @@ fn weigh_few(
     ensures { IfOk result (BytesGive target (joined group.now.tuples single.now.tuples)) }
 {
     let (a, b) = (&group.tuples, &single.tuples);
-    let rows = either_listed(alloc, first, a.zero(), a.codes(), second)?;
+    let rows = either_listed(alloc, second, b.zero(), b.codes(), first)?;
     let bound = Figures {
         listed_rows: rows.len() as u32,
         ..least_union(a, group.figures, b, single.figures)

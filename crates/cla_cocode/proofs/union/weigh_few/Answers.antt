@@ -18,13 +18,13 @@ use Rattle.cla_cocode.proofs.union.weigh_few.Goals as goal
 
 -- the rows that were found are those of the two
 either-are : (a b : TuplesOf) (found first second codes : List ℕ) (zero : Option ℕ)
-    → found ≡ first ++ filter (λ i. is_rest zero (code_of codes i)) second → zero ≡ a.zero → codes ≡ a.codes
+    → found ≡ second ++ filter (λ i. is_rest zero (code_of codes i)) first → zero ≡ b.zero → codes ≡ b.codes
     → first ≡ listing_of a → second ≡ listing_of b → found ≡ either_of a b
 either-are a b found first second codes zero is zeros same one two =
-    is ∙ ap (λ z. first ++ filter (λ i. is_rest z (code_of codes i)) second) zeros
-    ∙ ap (λ l. first ++ filter (λ i. is_rest a.zero (code_of l i)) second) same
-    ∙ ap (λ l. l ++ filter (λ i. is_rest a.zero (code_of a.codes i)) second) one
-    ∙ ap (λ l. listing_of a ++ filter (λ i. is_rest a.zero (code_of a.codes i)) l) two
+    is ∙ ap (λ z. second ++ filter (λ i. is_rest z (code_of codes i)) first) zeros
+    ∙ ap (λ l. second ++ filter (λ i. is_rest b.zero (code_of l i)) first) same
+    ∙ ap (λ l. l ++ filter (λ i. is_rest b.zero (code_of b.codes i)) first) two
+    ∙ ap (λ l. listing_of b ++ filter (λ i. is_rest b.zero (code_of b.codes i)) l) one
 
 bound : (a b : TuplesOf) (f : Figures) (rows : ℕ) → f ≡ least_of a b → rows ≡ (floor_of a b).listed_rows
     → record f { listed_rows = rows } ≡ least_with a b (floor_of a b).listed_rows
@@ -49,10 +49,10 @@ pub either_listed-requires : goal.either_listed-requires
 either_listed-requires c =
     let a = c.args.group.now.tuples in
     let b = c.args.single.now.tuples in
-    let count : length b.codes ≡ length c.codes.result.now =
-    c.requires.pair.rows ∙ sym (ap length c.codes.ensures.codes) in
-    subst (AreBelow (length c.codes.result.now)) (sym c.requires.second)
-    (subst (λ n. AreBelow n (listing_of b)) count (listing-below b))
+    let count : length a.codes ≡ length c.codes.result.now =
+    sym c.requires.pair.rows ∙ sym (ap length c.codes.ensures.codes) in
+    subst (AreBelow (length c.codes.result.now)) (sym c.requires.first)
+    (subst (λ n. AreBelow n (listing_of a)) count (listing-below a))
 
 pub overflow_cast-bound : goal.overflow_cast-bound
 overflow_cast-bound c =
@@ -61,8 +61,9 @@ overflow_cast-bound c =
     let are = either-are a b c.in_ok-rows.rows.items c.args.first.now c.args.second.now c.codes.result.now c.zero.result
     c.in_ok-rows.ensures c.zero.ensures c.codes.ensures.codes c.requires.first c.requires.second in
     let few = rows_where_few (is_listed_pair a.zero a.codes b.zero b.codes) (length a.codes) in
-    let small = figures-small a c.codes.ensures.are in
-    omega (arith, c.len.ensures, ap length are, either-rows a b c.requires.pair, few, small.tall)
+    let small = figures-small b c.codes.ensures.are in
+    let same = c.requires.pair.rows in
+    omega (arith, c.len.ensures, ap length are, either-rows a b c.requires.pair, few, small.tall, same)
 
 pub most_tuples-requires : goal.most_tuples-requires
 most_tuples-requires c =
