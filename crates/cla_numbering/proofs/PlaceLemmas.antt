@@ -1,5 +1,7 @@
 -- Numbering entries through a table with a place for each value.
-use Rattle.std.proofs.Common.{◌≡◌, ℕ, ℤ, pos, negsuc, zero, suc, ◌+◌, ◌-◌, ◌*◌, ◌/◌, ◌^◌, ◌<◌, ◌≤◌, Bool, nat_eq, List, [], ◌∷◌, map, length, get_or, drop, drop-cons, refl, sym, ap, ◌∙◌, arith, eq-eqb, eqb-true}
+use Rattle.std.proofs.Common.{◌≡◌, ℕ, ℤ, pos, negsuc, zero, suc, ◌+◌, ◌-◌, ◌*◌, ◌/◌, ◌^◌, ◌<◌, ◌≤◌, Bool, nat_eq, List}
+use Rattle.std.proofs.Common.{[], ◌∷◌, map, length, get_or, drop, drop-cons, refl, sym, ap, ◌∙◌, arith, eq-eqb}
+use Rattle.std.proofs.Common.{eqb-true}
 use Rattle.std.specs.Ordering.{int_eq}
 use Rattle.std.specs.Int.RustNames.{unsigned_abs}
 use Rattle.std.proofs.Math.Nat.{pow-le-pow_right}
@@ -42,8 +44,10 @@ place-same u v h g e = unsigned-same u v h g
     ∙ number_of-bytes_of 8 (unsigned_of 8 v) (unsigned-below v g))
 
 pub places-tell : (u v : ℤ) → Fits u → Fits v → nat_eq (place_in u) (place_in v) ≡ int_eq u v
-places-tell u v h g = same_from_decides (nat_eq (place_in u) (place_in v)) (int_eq u v)
-    (λ e. place-same u v h g (eqb-true (place_in u) (place_in v) e), λ e. eq-eqb (place_in u) (place_in v) (ap place_in e))
+places-tell u v h g = same_from_decides (nat_eq (place_in u) (place_in v)) (int_eq u v) (
+  λ e. place-same u v h g (eqb-true (place_in u) (place_in v) e),
+  λ e. eq-eqb (place_in u) (place_in v) (ap place_in e),
+)
     (Decides-int_eq u v)
 
 -- zero stands at the first place

@@ -17,5 +17,6 @@ loop-i-preserved g c =
           ∙ ap (λ l. l ++ value c.entry.result ∷ []) c.loop-i.invariant.entries
           ∙ ap (λ z. seen ++ z ∷ []) c.entry.ensures
           ∙ sym (map-range_with_len_more at 0 i i (omega arith));
-      count = ap length c.in_ok-push.ensures.items ∙ length_push c.loop-i.items.items c.entry.result ∙ ap (λ n. n + 1) c.loop-i.invariant.count;
+      count = ap length c.in_ok-push.ensures.items ∙ length_push c.loop-i.items.items c.entry.result
+          ∙ ap (λ n. n + 1) c.loop-i.invariant.count;
     }

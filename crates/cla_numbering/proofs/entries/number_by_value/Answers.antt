@@ -2,7 +2,8 @@ use Rattle.std.proofs.Common.{◌<◌, length, ap, ◌∙◌, arith}
 use Rattle.cla_numbering.specs.Columns.{place_in}
 use Rattle.cla_numbering.specs.Tables.{number_put, table_put, next_put}
 use Rattle.cla_numbering.proofs.TableLemmas.{numbered_next, numbered_whole, next-le, length-table_put}
-use Rattle.cla_numbering.proofs.PlaceLemmas.{codes-by_place, firsts-by_place, entry-places, entry-places-none, row-place}
+use Rattle.cla_numbering.proofs.PlaceLemmas.{codes-by_place, firsts-by_place, entry-places, entry-places-none}
+use Rattle.cla_numbering.proofs.PlaceLemmas.{row-place}
 use Rattle.cla_numbering.proofs.entries.number_by_value.Goals as goal
 
 pub number_place-requires-clause-within : goal.number_place-requires-clause-within
@@ -50,7 +51,8 @@ returns-clause-codes g c =
     let none = entry-places-none value items c.loop-item.item-index (omega (arith, c.loop-item-test.false)) in
     let whole = numbered_whole c.loop-item.table.items c.loop-item.codes.items c.loop-item.distinct _ _ none
     c.loop-item.invariant.numbered in
-    whole.0 ∙ codes-by_place _ value g.N.PartialEq.eq c.requires.bits g.met.N.Number.in_range g.met.N.Number.equality items
+    whole.0 ∙ codes-by_place _ value g.N.PartialEq.eq c.requires.bits g.met.N.Number.in_range g.met.N.Number.equality
+    items
 
 pub returns-clause-distinct : goal.returns-clause-distinct
 returns-clause-distinct g c =
@@ -59,4 +61,5 @@ returns-clause-distinct g c =
     let none = entry-places-none value items c.loop-item.item-index (omega (arith, c.loop-item-test.false)) in
     let whole = numbered_whole c.loop-item.table.items c.loop-item.codes.items c.loop-item.distinct _ _ none
     c.loop-item.invariant.numbered in
-    whole.1 ∙ firsts-by_place _ value g.N.PartialEq.eq c.requires.bits g.met.N.Number.in_range g.met.N.Number.equality items
+    whole.1 ∙ firsts-by_place _ value g.N.PartialEq.eq c.requires.bits g.met.N.Number.in_range g.met.N.Number.equality
+    items

@@ -33,6 +33,7 @@ loop-j-preserved g c =
 
 pub returns-clause-entries : goal.returns-clause-entries
 returns-clause-entries g c =
-    gathered-behind g.N.Number.value c.args.m.now c.args.first c.args.i (c.loop-j.j - c.args.first) c.loop-j.columns.items
+    gathered-behind g.N.Number.value c.args.m.now c.args.first c.args.i
+    (c.loop-j.j - c.args.first) c.loop-j.columns.items
     (omega (arith, c.loop-j-test.false, c.loop-j.invariant.count, c.requires.columns, c.loop-j.auto.j-end))
     c.loop-j.invariant.entries

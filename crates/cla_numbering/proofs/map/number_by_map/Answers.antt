@@ -14,9 +14,13 @@ loop-i-preserved c =
     let next = places-drop a b c.args.wide (length a) i c.loop-i-test.true in
     let put = c.in_ok-code.ensures.keys in
     record {
-      codes = codes_next c.loop-i.codes.items c.push.new.self.items c.loop-i.seen.keys c.insert_full.new.self.keys c.in_ok-code.code p _ (drop (i + 1) all) all
+      codes =
+          codes_next c.loop-i.codes.items c.push.new.self.items c.loop-i.seen.keys c.insert_full.new.self.keys
+          c.in_ok-code.code p _ (drop (i + 1) all) all
           c.loop-i.invariant.codes next c.in_ok-code.ensures.index put c.in_ok-push.ensures.items;
-      firsts = firsts_next c.loop-i.seen.keys c.insert_full.new.self.keys p _ (drop (i + 1) all) all c.loop-i.invariant.firsts next put;
+      firsts =
+          firsts_next c.loop-i.seen.keys c.insert_full.new.self.keys p _
+          (drop (i + 1) all) all c.loop-i.invariant.firsts next put;
       few = with_item-few c.loop-i.seen.keys c.insert_full.new.self.keys p i c.loop-i.invariant.few put;
     }
 
@@ -28,6 +32,10 @@ returns c =
     let within = λ (i : ℕ) (h : i < length a). c.requires.second i (omega (arith, rows, h)) in
     let none = places-none a b c.args.wide (length a) c.loop-i.i (omega (arith, c.loop-i-test.false)) in
     record {
-      codes = codes_whole c.loop-i.codes.items c.loop-i.seen.keys _ (places_of a b c.args.wide) none c.loop-i.invariant.codes ∙ codes-of_places a b c.args.wide (length a) within;
-      distinct = c.len-distinct.ensures.len ∙ ap length (firsts_whole c.loop-i.seen.keys _ (places_of a b c.args.wide) none c.loop-i.invariant.firsts) ∙ firsts-of_places a b c.args.wide (length a) within;
+      codes =
+          codes_whole c.loop-i.codes.items c.loop-i.seen.keys _
+          (places_of a b c.args.wide) none c.loop-i.invariant.codes ∙ codes-of_places a b c.args.wide (length a) within;
+      distinct = c.len-distinct.ensures.len
+          ∙ ap length (firsts_whole c.loop-i.seen.keys _ (places_of a b c.args.wide) none c.loop-i.invariant.firsts)
+          ∙ firsts-of_places a b c.args.wide (length a) within;
     }
