@@ -1,5 +1,6 @@
 -- How the endings of parts make the endings of a run.
-use Rattle.std.proofs.Common.{◌≡◌, ℕ, List, [], ◌∷◌, length, Option, Some, None, Result, Ok, Err, refl, sym, ap, subst, ◌∙◌, ◌⊎◌, arith, inl, inr}
+use Rattle.std.proofs.Common.{◌≡◌, ℕ, List, [], ◌∷◌, length, Option, Some, None, Result, Ok, Err, refl, sym, ap}
+use Rattle.std.proofs.Common.{subst, ◌∙◌, ◌⊎◌, arith, inl, inr}
 use Rattle.std.proofs.lemmas.List.{take_all}
 use Rattle.cla_spec.specs.Files.{Told}
 use Rattle.cla_spec.specs.Effects.{Effect, Out, World, applied, applied_one, IsFront, IsFrontBefore, grown}
@@ -14,10 +15,14 @@ use Rattle.cla_cli.specs.declared.statements.Halted.TheVariants as halted
 use Rattle.cla_cli.specs.Texts.{memory_line, usage_line, unwritable_line}
 use Rattle.cla_words.specs.Words.{Command, accepted_command}
 use Rattle.cla_cli.specs.Statements.{Trace}
-use Rattle.cla_cli.specs.Outcome.{Outcome, refused, usage_refusal, status_after, line_after, evaluated, command_outcome, outcome_of}
-use Rattle.cla_cli.specs.Run.{Ending, Settled, OutOfMemory, ReadFailed, WriteFailed, ending_of, IsRefusal, Written, FaultsCome, MayEnd, HasLine, HasFrontOfLine, Ends, EndsWhereTold, Completes, RiseBy, RiseByAtMost, CountsCome, CountsWhereTold, ReadsOnly, ReadsOnlyNeeded}
+use Rattle.cla_cli.specs.Outcome.{Outcome, refused, usage_refusal, status_after, line_after, evaluated}
+use Rattle.cla_cli.specs.Outcome.{command_outcome, outcome_of}
+use Rattle.cla_cli.specs.Run.{Ending, Settled, OutOfMemory, ReadFailed, WriteFailed, ending_of, IsRefusal, Written}
+use Rattle.cla_cli.specs.Run.{FaultsCome, MayEnd, HasLine, HasFrontOfLine, Ends, EndsWhereTold, Completes, RiseBy}
+use Rattle.cla_cli.specs.Run.{RiseByAtMost, CountsCome, CountsWhereTold, ReadsOnly, ReadsOnlyNeeded}
 use Rattle.cla_cli.specs.Runs.{world_of, Runs, HasHaltCause}
-use Rattle.cla_cli.specs.Parts.{Comes, ComesWhereTold, HasEnding, HasCounts, HasCountsWhereTold, IsNeeded, IsNeededWhereTold, Reaches, Lets, TellsHalt, TellsLine, Tells}
+use Rattle.cla_cli.specs.Parts.{Comes, ComesWhereTold, HasEnding, HasCounts, HasCountsWhereTold, IsNeeded}
+use Rattle.cla_cli.specs.Parts.{IsNeededWhereTold, Reaches, Lets, TellsHalt, TellsLine, Tells}
 
 -- nothing is a front of any effects
 front_nothing : (es : List Effect) (w : World) → IsFront es w w

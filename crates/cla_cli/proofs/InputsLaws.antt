@@ -1,5 +1,6 @@
 -- How the reads of statements come one after the other.
-use Rattle.std.proofs.Common.{◌≡◌, ◌≤◌, ◌<◌, ℕ, ℤ, suc, ◌+◌, List, [], ◌∷◌, ◌++◌, length, drop, get_or, Option, Some, None, Ok, Err, refl, sym, ap, subst, ◌∙◌, drop-cons, length-append, arith, inl}
+use Rattle.std.proofs.Common.{◌≡◌, ◌≤◌, ◌<◌, ℕ, ℤ, suc, ◌+◌, List, [], ◌∷◌, ◌++◌, length, drop, get_or, Option, Some}
+use Rattle.std.proofs.Common.{None, Ok, Err, refl, sym, ap, subst, ◌∙◌, drop-cons, length-append, arith, inl}
 use Rattle.std.proofs.Math.Numerals.{add-one}
 use Rattle.std.proofs.lemmas.List.{drop_all}
 use Rattle.cla_spec.specs.Files.{Told}
@@ -14,11 +15,13 @@ use Rattle.cla_script.specs.Reads.{statements_of}
 use Rattle.cla_check.specs.Scripts.{reads_in}
 use Rattle.cla_cli.specs.declared.unfinished.Unfinished.{Unfinished}
 use Rattle.cla_cli.specs.Statements.{files_read}
-use Rattle.cla_cli.specs.Outcome.{Outcome, with_table, with_tables, reads_outcome, tables_outcome, statements_outcome, script_outcome, checked_statements}
+use Rattle.cla_cli.specs.Outcome.{Outcome, with_table, with_tables, reads_outcome, tables_outcome, statements_outcome}
+use Rattle.cla_cli.specs.Outcome.{script_outcome, checked_statements}
 use Rattle.cla_cli.specs.Needed.{ReadsNoOther}
 use Rattle.cla_cli.specs.Run.{ReadsOnly}
 use Rattle.cla_cli.specs.Parts.{IsNeeded, Reaches, Lets, Passes}
-use Rattle.cla_cli.proofs.ReadLaws.{ReachesRest, one_read, one_unread, one_needed, reaches_on, lets_reached, passes_lets, tables_needed}
+use Rattle.cla_cli.proofs.ReadLaws.{ReachesRest, one_read, one_unread, one_needed, reaches_on, lets_reached}
+use Rattle.cla_cli.proofs.ReadLaws.{passes_lets, tables_needed}
 
 -- the next statement, and those after it
 next_of : {N : Type 0} (value : N → ℤ) (items : List (Statement N)) (i : ℕ) (x : Statement N) → i < length items →

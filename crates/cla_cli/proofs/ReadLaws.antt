@@ -1,5 +1,6 @@
 -- What the reads of a command say of its outcome.
-use Rattle.std.proofs.Common.{◌≡◌, ℕ, ◌<◌, ◌≤◌, suc, List, [], ◌∷◌, length, nat_le, false, Option, Some, None, Result, Ok, Err, refl, sym, ap, subst, ◌∙◌, arith, inl, inr, ◌++◌}
+use Rattle.std.proofs.Common.{◌≡◌, ℕ, ◌<◌, ◌≤◌, suc, List, [], ◌∷◌, length, nat_le, false, Option, Some, None, Result}
+use Rattle.std.proofs.Common.{Ok, Err, refl, sym, ap, subst, ◌∙◌, arith, inl, inr, ◌++◌}
 use Rattle.std.proofs.lemmas.List.{append_assoc, append-nil}
 use Rattle.std.specs.Prelude.{Contains}
 use Rattle.std.specs.FinMap as fin
@@ -18,7 +19,9 @@ use Rattle.cla_cli.specs.declared.unread.TooLong.{TooLong}
 use Rattle.cla_cli.specs.declared.unfinished.Unfinished.{Unfinished}
 use Rattle.cla_cli.specs.declared.unfinished.Unfinished.TheVariants as unfinished
 use Rattle.cla_cli.specs.Limits.{script_limit, table_limit}
-use Rattle.cla_cli.specs.Outcome.{Outcome, Refusal, refused, needing, missing_refusal, limit_refusal, table_refusal, budget_refusal, unless_larger, unless_refused, checked_script, with_table, with_tables, reads_outcome, script_outcome}
+use Rattle.cla_cli.specs.Outcome.{Outcome, Refusal, refused, needing, missing_refusal, limit_refusal, table_refusal}
+use Rattle.cla_cli.specs.Outcome.{budget_refusal, unless_larger, unless_refused, checked_script, with_table}
+use Rattle.cla_cli.specs.Outcome.{with_tables, reads_outcome, script_outcome}
 use Rattle.cla_cli.specs.Needed.{ReadsNoOther, ReadsText, ReadsTable}
 use Rattle.cla_cli.specs.Run.{ReadsOnly}
 use Rattle.cla_cli.specs.Parts.{Fits, TellsUnread, refusal_of_text, IsNeeded, Reaches, Lets, Passes}

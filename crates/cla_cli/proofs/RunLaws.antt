@@ -1,5 +1,6 @@
 -- Statements one after the other: what each leaves, and what all of them leave.
-use Rattle.std.proofs.Common.{◌≡◌, ℕ, ◌+◌, ◌*◌, ◌<◌, List, [], ◌∷◌, length, take, drop, get_or, Option, Some, None, Result, Ok, Err, refl, sym, ap, subst, ◌∙◌, arith, inl, inr}
+use Rattle.std.proofs.Common.{◌≡◌, ℕ, ◌+◌, ◌*◌, ◌<◌, List, [], ◌∷◌, length, take, drop, get_or, Option, Some, None}
+use Rattle.std.proofs.Common.{Result, Ok, Err, refl, sym, ap, subst, ◌∙◌, arith, inl, inr}
 use Rattle.std.proofs.lemmas.List.{drop_more}
 use Rattle.cla_spec.specs.Files.{Told}
 use Rattle.cla_spec.specs.Effects.{Effect, Out, World, IsFront, grown}
@@ -15,7 +16,8 @@ use Rattle.cla_grammar.specs.Tree.{Named, Statement, ReadOf}
 use Rattle.cla_print.specs.Texts.{Value, Table, printed}
 use Rattle.cla_cli.specs.declared.statements.Halted.{Halted}
 use Rattle.cla_cli.specs.declared.statements.Halted.TheVariants.{Operator, Unwritten, Memory}
-use Rattle.cla_cli.specs.Statements.{Assigned, Trace, Valued, matrix_of, value_of, nothing_done, printing, then_prints, both_counts, with_name, trace_of, script_work}
+use Rattle.cla_cli.specs.Statements.{Assigned, Trace, Valued, matrix_of, value_of, nothing_done, printing}
+use Rattle.cla_cli.specs.Statements.{then_prints, both_counts, with_name, trace_of, script_work}
 use Rattle.cla_cli.specs.Evaluate.{CountsTo, FewMore}
 use Rattle.cla_cli.specs.Run.{RiseBy, RiseByAtMost}
 use Rattle.cla_cli.specs.Runs.{world_of, Runs, GoesOn, HasHaltCause, halted_by}

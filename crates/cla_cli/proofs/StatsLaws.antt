@@ -1,5 +1,6 @@
 -- What the command `stats` comes to.
-use Rattle.std.proofs.Common.{◌≡◌, ℕ, ◌+◌, ◌<◌, ◌≤◌, List, ◌++◌, length, map, drop, get_or, Bool, true, false, if◌then◌else◌, Option, Some, None, Result, Ok, Err, refl, sym, ap, ◌∙◌, drop-cons}
+use Rattle.std.proofs.Common.{◌≡◌, ℕ, ◌+◌, ◌<◌, ◌≤◌, List, ◌++◌, length, map, drop, get_or, Bool, true, false}
+use Rattle.std.proofs.Common.{if◌then◌else◌, Option, Some, None, Result, Ok, Err, refl, sym, ap, ◌∙◌, drop-cons}
 use Rattle.std.proofs.Math.Numerals.{add-one}
 use Rattle.std.proofs.lemmas.List.{append_assoc, append-nil, drop_all, length-map}
 use Rattle.std.specs.FinMap as fin
@@ -14,7 +15,9 @@ use Rattle.cla_cli.specs.Forms.{file_of}
 use Rattle.cla_cli.specs.Limits.{most_budget}
 use Rattle.cla_cli.specs.Statements.{printing}
 use Rattle.cla_cli.specs.Stats.{head_lines, group_line, group_lines, stats_text}
-use Rattle.cla_cli.specs.Outcome.{Outcome, Refusal, refused, budget_refusal, unless_refused, unless_missing, unless_larger, checked_table, with_table, text_outcome, file_outcome, evaluated, stats_outcome, written_outcome}
+use Rattle.cla_cli.specs.Outcome.{Outcome, Refusal, refused, budget_refusal, unless_refused, unless_missing}
+use Rattle.cla_cli.specs.Outcome.{unless_larger, checked_table, with_table, text_outcome, file_outcome, evaluated}
+use Rattle.cla_cli.specs.Outcome.{stats_outcome, written_outcome}
 use Rattle.cla_cli.specs.Parts.{Reaches}
 
 -- it counts nothing

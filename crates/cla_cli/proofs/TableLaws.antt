@@ -1,12 +1,14 @@
 -- Tables, and what operators on them say of the matrices for which they stand.
-use Rattle.std.proofs.Common.{◌≡◌, ℕ, ℤ, zero, suc, pos, ◌+◌, ◌*◌, ◌<◌, ◌≤◌, ◌*ℤ◌, List, [], ◌∷◌, length, map, get_or, refl, ap, sym, subst, ◌∙◌, arith}
+use Rattle.std.proofs.Common.{◌≡◌, ℕ, ℤ, zero, suc, pos, ◌+◌, ◌*◌, ◌<◌, ◌≤◌, ◌*ℤ◌, List, [], ◌∷◌, length, map, get_or}
+use Rattle.std.proofs.Common.{refl, ap, sym, subst, ◌∙◌, arith}
 use Rattle.std.proofs.Common.{Bool, true, false, Option, Some, None, Result, Err}
 use Rattle.std.proofs.Math.Nat.{mul-le-mul}
 use Rattle.std.specs.List.{range_with_len}
 use Rattle.std.proofs.lemmas.Bool.{lt-ltb}
 use Rattle.std.proofs.lemmas.List.{length-map}
 use Rattle.cla_check.specs.Scripts.{IsInLimits}
-use Rattle.cla_spec.specs.Matrix.{Matrix, entry, most_cells, row_by_row, IsShaped, sum_of_entries, exact_sum, scaled_entry, scaled}
+use Rattle.cla_spec.specs.Matrix.{Matrix, entry, most_cells, row_by_row, IsShaped, sum_of_entries, exact_sum}
+use Rattle.cla_spec.specs.Matrix.{scaled_entry, scaled}
 use Rattle.cla_spec.proofs.Sums.{sum_of_entries-same}
 use Rattle.cla_spec.proofs.Entries.{row_by_row-entry, row_by_row-same}
 use Rattle.cla_num.specs.Fault.{fault_of, first_fault_from, or_else, cell_fault, exactly}
@@ -17,7 +19,8 @@ use Rattle.cla_num.specs.declared.fault.Refused.TheVariants.{Op, Memory}
 use Rattle.cla_num.specs.Counts.{Counts}
 use Rattle.cla_num.proofs.Faults.{fault_of-same}
 use Rattle.cla_layout.specs.Groups.{code_of, cell_of, GroupStandsFor, IsGroup}
-use Rattle.cla_layout.specs.Layouts.{Layout, LayoutPart, IsWhole, IsPart, part_at, index_of, entry_in, entry_as, matrix_in, matrix_as, loose_layout}
+use Rattle.cla_layout.specs.Layouts.{Layout, LayoutPart, IsWhole, IsPart, part_at, index_of, entry_in, entry_as}
+use Rattle.cla_layout.specs.Layouts.{matrix_in, matrix_as, loose_layout}
 use Rattle.cla_layout.specs.Values.{values_of}
 use Rattle.cla_layout.proofs.Counting.{rows_count, code_is, first_row_is}
 use Rattle.cla_layout.proofs.Cells.{tuples_few}

@@ -1,7 +1,8 @@
 -- The exit status of each status.
 use Rattle.std.specs.Prelude.{ℕ}
 use Rattle.cla_cli.specs.declared.status.Status.{Status}
-use Rattle.cla_cli.specs.declared.status.Status.TheVariants.{Done, Memory, Usage, Missing, ReadFault, WriteFault, BadScript, BadFile, Limit, Operator, OverBudget}
+use Rattle.cla_cli.specs.declared.status.Status.TheVariants.{Done, Memory, Usage, Missing, ReadFault, WriteFault}
+use Rattle.cla_cli.specs.declared.status.Status.TheVariants.{BadScript, BadFile, Limit, Operator, OverBudget}
 
 abbrev pub code_of : Status → ℕ
 code_of Done = 0

@@ -1,6 +1,7 @@
 -- What a command line comes to: its status, its effects, the files that it needs, its counts and its line on standard
 -- error.
-use Rattle.std.specs.Prelude.{ℕ, List, [], ◌∷◌, length, map, Option, Some, None, Bool, Result, Ok, Err, nat_le, if◌then◌else◌}
+use Rattle.std.specs.Prelude.{ℕ, List, [], ◌∷◌, length, map, Option, Some, None, Bool, Result, Ok, Err, nat_le}
+use Rattle.std.specs.Prelude.{if◌then◌else◌}
 use Rattle.std.specs.FinMap as fin
 use Rattle.cla_spec.specs.Files.{Told}
 use Rattle.cla_spec.specs.Effects.{Effect}
@@ -22,14 +23,16 @@ use Rattle.cla_check.specs.Scripts.{first_shape_fault}
 use Rattle.cla_check.specs.declared.shape.Shape.{Shape}
 use Rattle.cla_check.specs.declared.fault.Fault as shapes
 use Rattle.cla_cli.specs.declared.status.Status.{Status}
-use Rattle.cla_cli.specs.declared.status.Status.TheVariants.{Done, Usage, Missing, BadScript, BadFile, Limit, Operator, OverBudget}
+use Rattle.cla_cli.specs.declared.status.Status.TheVariants.{Done, Usage, Missing, BadScript, BadFile, Limit}
+use Rattle.cla_cli.specs.declared.status.Status.TheVariants.{Operator, OverBudget}
 use Rattle.cla_cli.specs.declared.status.BadKind.{BadKind}
 use Rattle.cla_cli.specs.declared.status.BadKind.TheVariants as kind
 use Rattle.cla_cli.specs.Limits.{script_limit, table_limit, most_budget}
 use Rattle.cla_words.specs.Words.{Command, Run, Pack, Unpack, Stats, accepted_command}
 use Rattle.cla_cli.specs.declared.writing.Form.{Form}
 use Rattle.cla_cli.specs.declared.writing.Form.TheVariants as form
-use Rattle.cla_cli.specs.Texts.{usage_line, missing_line, limit_line, script_line, table_line, operator_line, budget_line}
+use Rattle.cla_cli.specs.Texts.{usage_line, missing_line, limit_line, script_line, table_line, operator_line}
+use Rattle.cla_cli.specs.Texts.{budget_line}
 use Rattle.cla_cli.specs.Stats.{stats_text}
 use Rattle.cla_cli.specs.Statements.{Trace, printing, replacing, trace_of, script_work, are_built, files_read}
 use Rattle.cla_cli.specs.Forms.{file_of}

@@ -18,10 +18,12 @@ use Rattle.cla_cli.specs.declared.unfinished.Unfinished.{Unfinished}
 use Rattle.cla_cli.specs.declared.unfinished.Unfinished.TheVariants as unfinished
 use Rattle.cla_cli.specs.declared.statements.Halted.{Halted}
 use Rattle.cla_cli.specs.declared.statements.Halted.TheVariants as halted
-use Rattle.cla_cli.specs.Texts.{memory_line, unreadable_line, unwritable_line, missing_line, script_line, operator_line, budget_line}
+use Rattle.cla_cli.specs.Texts.{memory_line, unreadable_line, unwritable_line, missing_line, script_line}
+use Rattle.cla_cli.specs.Texts.{operator_line, budget_line}
 use Rattle.cla_cli.specs.Limits.{script_limit}
 use Rattle.cla_cli.specs.Outcome.{Outcome, Refusal, limit_refusal, refusal_at}
-use Rattle.cla_cli.specs.Run.{Settled, OutOfMemory, ReadFailed, WriteFailed, IsRefusal, Written, MayEnd, FaultsCome, MissesCome, HasLine, HasFrontOfLine, RiseBy, RiseByAtMost, AreNotBelow}
+use Rattle.cla_cli.specs.Run.{Settled, OutOfMemory, ReadFailed, WriteFailed, IsRefusal, Written, MayEnd, FaultsCome}
+use Rattle.cla_cli.specs.Run.{MissesCome, HasLine, HasFrontOfLine, RiseBy, RiseByAtMost, AreNotBelow}
 
 -- A command is done, or why it isn't: each as one ending of its outcome.
 abbrev pub Comes : {U : Type 0} → Outcome → Told → Told → State → State → Written → Written → Result U Unfinished →

@@ -3,7 +3,8 @@
 ghost use Rattle.std.specs.Prelude.{◌≡◌};
 ghost use Rattle.cla_script.specs.Reads.{statements_of};
 ghost use Rattle.cla_script.specs.View.{tree_of, statement_of};
-ghost use Rattle.cla_cli.specs.Statements.{is_name, is_number, is_summand, is_call_built, is_built, does_run, are_built};
+ghost use Rattle.cla_cli.specs.Statements.{is_name, is_number, is_summand, is_call_built, is_built, does_run};
+ghost use Rattle.cla_cli.specs.Statements.{are_built};
 
 use crate::evaluate::is_product;
 use cla_num::Number;

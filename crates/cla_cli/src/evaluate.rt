@@ -6,7 +6,8 @@ ghost use Rattle.cla_num.specs.Bits.{IsSupported};
 ghost use Rattle.cla_num.specs.Counts.{AreBelow, kernel_bound};
 ghost use Rattle.cla_num.specs.Fault.{AnswersNumber};
 ghost use Rattle.cla_script.specs.View.{tree_of};
-ghost use Rattle.cla_cli.specs.Statements.{matrix_at, number_at, is_product, exact_number, sum_of, product_sum_of, summed, called, sum_counts, product_sum_counts, sum_work, call_work};
+ghost use Rattle.cla_cli.specs.Statements.{matrix_at, number_at, is_product, exact_number, sum_of, product_sum_of};
+ghost use Rattle.cla_cli.specs.Statements.{summed, called, sum_counts, product_sum_counts, sum_work, call_work};
 ghost use Rattle.cla_cli.specs.Evaluate.{MayComeTo, CountsTo, FewMore, operator_most, statement_most, statement_bound};
 
 use crate::names::{Assigned, table_of};

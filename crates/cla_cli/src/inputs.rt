@@ -10,10 +10,12 @@ ghost use Rattle.cla_tokens.specs.Formed.{AllFormed};
 ghost use Rattle.cla_check.specs.Scripts.{IsInLimits, reads_in};
 ghost use Rattle.cla_check.specs.Checks.{script_of};
 ghost use Rattle.cla_cli.specs.Statements.{files_read};
-ghost use Rattle.cla_cli.specs.Outcome.{Outcome, checked_script, checked_statements, with_table, with_tables, reads_outcome, statements_outcome, script_outcome, shape_of_table};
+ghost use Rattle.cla_cli.specs.Outcome.{Outcome, checked_script, checked_statements, with_table, with_tables};
+ghost use Rattle.cla_cli.specs.Outcome.{reads_outcome, statements_outcome, script_outcome, shape_of_table};
 ghost use Rattle.cla_cli.specs.Needed.{ReadsNoOther};
 ghost use Rattle.cla_cli.specs.Run.{ReadsOnly};
-ghost use Rattle.cla_cli.specs.Parts.{HasEnding, IsNeeded, Lets, Passes, RefusesAt, TellsFault, TellsUnread, refusal_of_text};
+ghost use Rattle.cla_cli.specs.Parts.{HasEnding, IsNeeded, Lets, Passes, RefusesAt, TellsFault, TellsUnread};
+ghost use Rattle.cla_cli.specs.Parts.{refusal_of_text};
 
 use crate::budget::read_matrix;
 use crate::built::are_built;

@@ -3,7 +3,11 @@
 ghost use Rattle.std.specs.Prelude.{◌≡◌, ◌++◌, [], IfOk, OnOk, codes, pos};
 ghost use Rattle.cla_spec.specs.Effects.{File};
 ghost use Rattle.cla_spec.specs.Numbers.{decimal_of};
-ghost use Rattle.cla_cli.specs.Texts.{missing_line, unreadable_line, unwritable_line, more_bytes_text, limit_line, script_line, bad_line_text, shape_text, line_fault_text, field_text, bad_field_text, packed_fault_text, table_fault_text, table_word, table_line, bad_kind_text, script_kind_text, shape_kind_text, operator_line, reason_text, budget_line};
+ghost use Rattle.cla_cli.specs.Texts.{missing_line, unreadable_line, unwritable_line, more_bytes_text, limit_line};
+ghost use Rattle.cla_cli.specs.Texts.{script_line, bad_line_text, shape_text, line_fault_text, field_text};
+ghost use Rattle.cla_cli.specs.Texts.{bad_field_text, packed_fault_text, table_fault_text, table_word, table_line};
+ghost use Rattle.cla_cli.specs.Texts.{bad_kind_text, script_kind_text, shape_kind_text, operator_line, reason_text};
+ghost use Rattle.cla_cli.specs.Texts.{budget_line};
 
 use crate::needed::TABLE_BYTES;
 use crate::status::BadKind;

@@ -7,8 +7,10 @@ ghost use Rattle.cla_io.specs.Reads.{OnlyReads};
 ghost use Rattle.cla_words.specs.Asked.{asked};
 ghost use Rattle.cla_words.specs.Words.{accepted_command};
 ghost use Rattle.cla_cli.specs.Outcome.{command_outcome, script_outcome, stats_outcome, written_outcome};
-ghost use Rattle.cla_cli.specs.Run.{ending_of, FaultsCome, MissesCome, EndsWhereTold, Completes, CountsWhereTold, ReadsOnlyNeeded, Keeps, Written, written};
-ghost use Rattle.cla_cli.specs.Parts.{ComesWhereTold, HasEnding, HasCountsWhereTold, IsNeededWhereTold, TellsHalt, Tells, TellsLine};
+ghost use Rattle.cla_cli.specs.Run.{ending_of, FaultsCome, MissesCome, EndsWhereTold, Completes, CountsWhereTold};
+ghost use Rattle.cla_cli.specs.Run.{ReadsOnlyNeeded, Keeps, Written, written};
+ghost use Rattle.cla_cli.specs.Parts.{ComesWhereTold, HasEnding, HasCountsWhereTold, IsNeededWhereTold, TellsHalt};
+ghost use Rattle.cla_cli.specs.Parts.{Tells, TellsLine};
 
 use crate::budget::{MOST_BUDGET, budget_or_most, read_matrix, read_within};
 use crate::inputs::{Inputs, read_inputs};

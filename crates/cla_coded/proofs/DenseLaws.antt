@@ -4,7 +4,8 @@ use Rattle.std.proofs.Math.Nat.{mul_comm}
 use Rattle.std.proofs.lemmas.Bool.{cases_Bool, cases_eq}
 use Rattle.cla_spec.specs.Matrix.{Matrix, entry, row_by_row, IsShaped}
 use Rattle.cla_layout.specs.Groups.{at}
-use Rattle.cla_layout.specs.Layouts.{LayoutPart, part_at, column_at, has_column, layout_with, entry_in, IsWhole, matrix_as, matrix_in}
+use Rattle.cla_layout.specs.Layouts.{LayoutPart, part_at, column_at, has_column, layout_with, entry_in, IsWhole}
+use Rattle.cla_layout.specs.Layouts.{matrix_as, matrix_in}
 use Rattle.cla_coded.specs.declared.dense.Shape.{Shape}
 use Rattle.cla_coded.specs.Places.{place_in, IsPartOf, IsPartWritten, AreEntries}
 use Rattle.cla_layout.proofs.Wholes.{only_part, some_part, entry_of_part, own_column, own_column_within}

@@ -17,7 +17,8 @@ use Rattle.cla_runs.specs.Members.{runs_columns, runs_codes, runs_dictionary, ru
 use Rattle.cla_coded.specs.declared.any_group.AnyGroup.{AnyGroup}
 use Rattle.cla_coded.specs.declared.any_group.AnyGroup.TheVariants.{Plain, Codes1, Codes2, Codes4, Offsets, Runs}
 
--- how a group is kept: its kind, how many bytes a row's code takes, and the tuple that no list names; 0 and none for the
+-- how a group is kept: its kind, how many bytes a row's code takes, and the tuple that no list names; 0 and none for
+-- the
 -- kinds that have no such thing
 pub record FormOf : Type 0 where
   pub kind : Kind
@@ -96,7 +97,8 @@ module _ {N : Type 0} {n : number.Ghosts N} {o : ord.Ghosts N} {e : partial_eq.G
   any_law (Offsets g) = offsets_law g
   any_law (Runs g) = runs_law g
 
--- the group that is made of these codes and tuples: in a plain one row i has code i and the tuple of its code, and in the
+-- the group that is made of these codes and tuples: in a plain one row i has code i and the tuple of its code, and in
+-- the
 -- others codes and tuples are these
 abbrev pub HasCodes : Kind → List ℕ → List (List ℤ) → List ℕ → List (List ℤ) → ℕ → Type 0
 HasCodes kind.Plain codes tuples codes' tuples' width =

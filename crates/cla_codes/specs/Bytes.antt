@@ -1,5 +1,6 @@
 -- Codes of rows in bytes, the least byte first.
-use Rattle.std.specs.Prelude.{◌≡◌, ℕ, zero, suc, ◌+◌, ◌*◌, ◌/◌, ◌%◌, ◌<◌, ◌≤◌, List, [], ◌∷◌, length, map, slice_index_or, true}
+use Rattle.std.specs.Prelude.{◌≡◌, ℕ, zero, suc, ◌+◌, ◌*◌, ◌/◌, ◌%◌, ◌<◌, ◌≤◌, List, [], ◌∷◌, length, map}
+use Rattle.std.specs.Prelude.{slice_index_or, true}
 use Rattle.std.specs.List.{range_with_len}
 use Rattle.cla_spec.specs.Matrix.{most_cells}
 use Rattle.cla_rows.specs.Counted.{AreCounted}

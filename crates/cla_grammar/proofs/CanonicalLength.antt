@@ -6,7 +6,8 @@ use Rattle.std.proofs.lemmas.Bool.{cases_lt}
 use Rattle.std.proofs.lemmas.Bool.Decides.{nat_tests}
 use Rattle.cla_grammar.specs.Tokens.{Token, Placed, level}
 use Rattle.cla_grammar.specs.Tree.{Tree, Slice, Span, Constant, Named, Negative, Square, Binary, Apply, Join, Statement}
-use Rattle.cla_grammar.specs.Grammar.{Derives, IsSpan, every, one, pair, number, name, paren, call, bind, slice, square, negative}
+use Rattle.cla_grammar.specs.Grammar.{Derives, IsSpan, every, one, pair, number, name, paren, call, bind, slice}
+use Rattle.cla_grammar.specs.Grammar.{square, negative}
 use Rattle.cla_grammar.specs.Grammar.{binary, up, Reads, reading, letting, printing, saving}
 use Rattle.cla_grammar.specs.Canonical.{own_level, bracketed, canonical_tokens, span_tokens, statement_tokens}
 use Rattle.cla_grammar.proofs.MachineSound.{one_op}

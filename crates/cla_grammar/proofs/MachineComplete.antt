@@ -1,19 +1,24 @@
 -- What the grammar derives the machine reads.
-use Rattle.std.proofs.Common.{pos, ◌≡◌, ℕ, suc, ◌<◌, ◌≤◌, List, [], ◌∷◌, ◌++◌, refl, sym, ap, inl, inr, ◌∙◌, arith, Bool, true, false}
+use Rattle.std.proofs.Common.{pos, ◌≡◌, ℕ, suc, ◌<◌, ◌≤◌, List, [], ◌∷◌, ◌++◌, refl, sym, ap, inl, inr, ◌∙◌, arith}
+use Rattle.std.proofs.Common.{Bool, true, false}
 use Rattle.std.proofs.Common.{Some}
 use Rattle.std.proofs.lemmas.Bool.{cases_lt}
 use Rattle.std.proofs.lemmas.Bool.Decides.{nat_tests}
 use Rattle.cla_grammar.specs.declared.place.Place.{Place}
-use Rattle.cla_grammar.specs.Tokens.{Placed, Number, Text, Sign, Power, Close, Comma, OpenSquare, CloseSquare, level, cell_level}
+use Rattle.cla_grammar.specs.Tokens.{Placed, Number, Text, Sign, Power, Close, Comma, OpenSquare, CloseSquare, level}
+use Rattle.cla_grammar.specs.Tokens.{cell_level}
 use Rattle.cla_grammar.specs.Tree.{Tree, Slice, Span, Constant, Named, Square, Statement, LetOf}
 use Rattle.cla_num.specs.declared.cell_op.CellOp.{CellOp}
 use Rattle.cla_num.specs.declared.cell_op.CellOp.TheVariants.{Add, Sub, Mul, Div, Mod, Lt, Le, Gt, Ge, Eq, Ne, Neg}
 use Rattle.cla_grammar.specs.declared.words.BinOp.{BinOp}
 use Rattle.cla_grammar.specs.declared.words.BinOp.TheVariants.{Cell, Product}
-use Rattle.cla_grammar.specs.Grammar.{at, Derives, IsSpan, every, one, pair, number, name, paren, call, bind, slice, square, negative}
+use Rattle.cla_grammar.specs.Grammar.{at, Derives, IsSpan, every, one, pair, number, name, paren, call, bind, slice}
+use Rattle.cla_grammar.specs.Grammar.{square, negative}
 use Rattle.cla_grammar.specs.Grammar.{binary, up, Reads, reading, letting, printing, saving}
-use Rattle.cla_grammar.specs.Machine.{Frame, Left, Minus, Paren, Argument, First, Second, Letting, Printing, Saving, level_of, needs}
-use Rattle.cla_grammar.specs.Machine.{closed, Reduced, reduced, reduce, State, Start, Want, Have, InSpan, Rows, Cols, Nothing, close}
+use Rattle.cla_grammar.specs.Machine.{Frame, Left, Minus, Paren, Argument, First, Second, Letting, Printing, Saving}
+use Rattle.cla_grammar.specs.Machine.{level_of, needs}
+use Rattle.cla_grammar.specs.Machine.{closed, Reduced, reduced, reduce, State, Start, Want, Have, InSpan, Rows, Cols}
+use Rattle.cla_grammar.specs.Machine.{Nothing, close}
 use Rattle.cla_grammar.specs.Machine.{next_argument, step, run, let_end, finish}
 
 pub run-append : (s : State) (a b : List Placed) → run s (a ++ b) ≡ run (run s a) b
@@ -43,10 +48,12 @@ pub op_low : (o : BinOp) → level o ≤ 4
 op_low (Cell o) = cell_low o
 op_low Product = omega arith
 
-pub reduce_stop : (k : ℕ) (f : Frame) (s : List Frame) (t : Tree) → level_of f < k → reduce k (f ∷ s) t ≡ reduced (f ∷ s) t
+pub reduce_stop : (k : ℕ) (f : Frame) (s : List Frame) (t : Tree) → level_of f < k
+    → reduce k (f ∷ s) t ≡ reduced (f ∷ s) t
 reduce_stop k f s t h = grind (arith, nat_tests)
 
-pub reduce_go : (k : ℕ) (f : Frame) (s : List Frame) (t : Tree) → k ≤ level_of f → reduce k (f ∷ s) t ≡ reduce k s (closed f t)
+pub reduce_go : (k : ℕ) (f : Frame) (s : List Frame) (t : Tree) → k ≤ level_of f
+    → reduce k (f ∷ s) t ≡ reduce k s (closed f t)
 reduce_go k f s t h = grind (arith, nat_tests)
 
 pub binary_below : (f : Frame) (o : BinOp) → needs f ≤ level o → level_of f < level o
@@ -64,7 +71,8 @@ pub binary_stop : (o : BinOp) (s : List Frame) (t : Tree) → Fits (level o) s �
 binary_stop o [] t h = refl
 binary_stop o (f ∷ s) t h = reduce_stop (level o) f s t (binary_below f o h)
 
-pub reduce_twice : (k m : ℕ) (s : List Frame) (t : Tree) → k ≤ m → reduce k (reduce m s t).stack (reduce m s t).tree ≡ reduce k s t
+pub reduce_twice : (k m : ℕ) (s : List Frame) (t : Tree) → k ≤ m
+    → reduce k (reduce m s t).stack (reduce m s t).tree ≡ reduce k s t
 reduce_twice k m [] t h = refl
 reduce_twice k m (f ∷ s) t h = elim (cases_lt (level_of f) m) [
   | inl low ↦ ap (λ (r : Reduced). reduce k r.stack r.tree) (reduce_stop m f s t low)
@@ -112,7 +120,8 @@ seven : (s : List Frame) (t : Tree) → reduce 7 s t ≡ reduced s t
 seven [] t = refl
 seven (f ∷ s) t = reduce_stop 7 f s t (omega (arith, below_six f))
 
-rows_done : {u : List Placed} {rows : Span} → IsSpan u rows → (p q : Place) (s : List Frame) (x : Tree) (more : List Placed)
+rows_done : {u : List Placed} {rows : Span} → IsSpan u rows
+    → (p q : Place) (s : List Frame) (x : Tree) (more : List Placed)
     → run (InSpan p s x Rows Nothing) (u ++ (at q Comma ∷ more)) ≡ run (InSpan p s x (Cols rows) Nothing) more
 rows_done every p q s x more = refl
 rows_done (one r n) p q s x more = refl
@@ -125,8 +134,10 @@ cols_done (one r n) rows p q s x = refl
 cols_done (pair r r' r'' n m) rows p q s x = refl
 
 pub complete : {l : ℕ} {ts : List Placed} {x : Tree} → Derives l ts x → (s : List Frame) → Fits l s → Reached l s x ts
-complete (number p n) s h = record { flag = true; sliceable = λ _. refl; stack = s; tree = Constant (pos n); runs = refl; same = refl }
-complete (name p n) s h = record { flag = true; sliceable = λ _. refl; stack = s; tree = Named p n; runs = refl; same = refl }
+complete (number p n) s h =
+    record { flag = true; sliceable = λ _. refl; stack = s; tree = Constant (pos n); runs = refl; same = refl }
+complete (name p n) s h =
+    record { flag = true; sliceable = λ _. refl; stack = s; tree = Named p n; runs = refl; same = refl }
 complete (paren p q d) s h =
     let r = complete d (Paren ∷ s) (omega arith) in
     record {
@@ -171,7 +182,8 @@ complete (square p q {x = x} d) s h =
       stack = s;
       tree = Square p x;
       runs =
-          after _ _ _ _ (at p Power ∷ (at q (Number 2) ∷ [])) r ∙ ap (λ (u : Reduced). Have false u.stack (Square p u.tree)) e;
+          after _ _ _ _ (at p Power ∷ (at q (Number 2) ∷ [])) r
+          ∙ ap (λ (u : Reduced). Have false u.stack (Square p u.tree)) e;
       same =
           refl;
     }
@@ -191,7 +203,15 @@ complete (slice p q r {u = u} {v = v} {x = x} {rows = rows} {cols = cols} d e f)
     }
 complete (negative p d) s h =
     let r = complete d (Minus p ∷ s) (omega arith) in
-    record { flag = r.flag; sliceable = λ h. absurd (omega arith); stack = r.stack; tree = r.tree; runs = r.runs; same = r.same }
+    record {
+      flag = r.flag;
+      sliceable = λ h. absurd (omega arith);
+      stack = r.stack;
+      tree = r.tree;
+      runs =
+          r.runs;
+      same = r.same;
+    }
 complete (binary p o {b = b} {x = x} {y = y} d e) s h =
     let r = complete d s h in
     let i = complete e (Left p o x ∷ s) (fits_binary o p x s) in
@@ -232,7 +252,8 @@ reads_whole (printing p q r d) =
 reads_whole (saving k p q r s t f d) =
     let i = complete d (Saving k p ∷ []) (omega arith) in
     let tail = at s (Text f) ∷ (at t Close ∷ []) in
-    ap finish (after _ _ _ _ (at r Comma ∷ tail) i ∙ ap (λ (u : Reduced). run (next_argument u.stack u.tree) tail) i.same)
+    ap finish
+    (after _ _ _ _ (at r Comma ∷ tail) i ∙ ap (λ (u : Reduced). run (next_argument u.stack u.tree) tail) i.same)
 
 some_same : {x y : Statement} → Some x ≡ Some y → x ≡ y
 some_same e = cc

@@ -1,17 +1,24 @@
 -- Where the machine is not dead, the tokens begin a statement.
-use Rattle.std.proofs.Common.{pos, ◌≡◌, ◌≢◌, ◌≤◌, Bool, true, false, List, [], ◌∷◌, ◌++◌, refl, sym, ap, ◌∙◌, arith, Some, None}
+use Rattle.std.proofs.Common.{pos, ◌≡◌, ◌≢◌, ◌≤◌, Bool, true, false, List, [], ◌∷◌, ◌++◌, refl, sym, ap, ◌∙◌, arith}
+use Rattle.std.proofs.Common.{Some, None}
 use Rattle.cla_grammar.specs.declared.place.Place.{Place}
 use Rattle.cla_grammar.specs.Tokens.{Placed, Number, Text, Assign, Open, Close, Comma, CloseSquare, Print}
-use Rattle.cla_grammar.specs.Tree.{Tree, Slice, Every, One, Pair, Constant, Negative, Square, Binary, Apply, Join, Statement, ReadOf}
+use Rattle.cla_grammar.specs.Tree.{Tree, Slice, Every, One, Pair, Constant, Negative, Square, Binary, Apply, Join}
+use Rattle.cla_grammar.specs.Tree.{Statement, ReadOf}
 use Rattle.cla_grammar.specs.Tree.{LetOf, PrintOf, SaveOf}
 use Rattle.cla_grammar.specs.Grammar.{at, Reads, Begins}
-use Rattle.cla_grammar.specs.Machine.{Frame, Left, Minus, Paren, Argument, First, Second, Letting, Printing, Saving, level_of, closed}
-use Rattle.cla_grammar.specs.Machine.{Reduced, State, Start, After, Want, WantOpen, Have, InSpan, WantTwo, ReadOpen, ReadText, ReadClose}
-use Rattle.cla_grammar.specs.Machine.{FileText, FileClose, Whole, Dead, Part, Rows, Cols, Seen, Nothing, Once, Parted, Both, close}
+use Rattle.cla_grammar.specs.Machine.{Frame, Left, Minus, Paren, Argument, First, Second, Letting, Printing, Saving}
+use Rattle.cla_grammar.specs.Machine.{level_of, closed}
+use Rattle.cla_grammar.specs.Machine.{Reduced, State, Start, After, Want, WantOpen, Have, InSpan, WantTwo, ReadOpen}
+use Rattle.cla_grammar.specs.Machine.{ReadText, ReadClose}
+use Rattle.cla_grammar.specs.Machine.{FileText, FileClose, Whole, Dead, Part, Rows, Cols, Seen, Nothing, Once, Parted}
+use Rattle.cla_grammar.specs.Machine.{Both, close}
 use Rattle.cla_grammar.specs.Machine.{next_argument, run, let_end, finish}
 use Rattle.cla_grammar.proofs.MachineComplete.{reduce_go, run-append, reads_whole}
-use Rattle.cla_grammar.proofs.MachineSound.{Held, lets, prints, saves, left, minus, opened, argument, first, second, Good, wants}
-use Rattle.cla_grammar.proofs.MachineSound.{call_open, bind_open, print_open, save_open, has, in_span, two, starts, run_good, one_op}
+use Rattle.cla_grammar.proofs.MachineSound.{Held, lets, prints, saves, left, minus, opened, argument, first, second}
+use Rattle.cla_grammar.proofs.MachineSound.{Good, wants}
+use Rattle.cla_grammar.proofs.MachineSound.{call_open, bind_open, print_open, save_open, has, in_span, two, starts}
+use Rattle.cla_grammar.proofs.MachineSound.{run_good, one_op}
 use Rattle.cla_grammar.proofs.MachineSound.{derived}
 
 anywhere : Place
@@ -52,7 +59,8 @@ pass : (b c : Bool) (f : Frame) (s : List Frame) (t : Tree) (ks : List Placed) �
     → finish (run (Have b (f ∷ s) t) ks) ≡ finish (run (Have c s (closed f t)) ks)
 pass b c f s t _ h over = ap (λ (r : Reduced). let_end r.stack r.tree) (reduce_go 1 f s t h)
 pass b c f s t _ h (a_close ks) = ap (λ (r : Reduced). finish (run (close r.stack r.tree) ks)) (reduce_go 1 f s t h)
-pass b c f s t _ h (a_comma ks) = ap (λ (r : Reduced). finish (run (next_argument r.stack r.tree) ks)) (reduce_go 1 f s t h)
+pass b c f s t _ h (a_comma ks) =
+    ap (λ (r : Reduced). finish (run (next_argument r.stack r.tree) ks)) (reduce_go 1 f s t h)
 
 abbrev Finishes : State → Type 0
 Finishes u = (x : Statement) × (finish u ≡ Some x)
@@ -103,21 +111,27 @@ with_number : (s : List Frame) (all : List Placed) → Good (Want s) all → Can
 with_number s all (wants h) = (at anywhere (Number 0) ∷ closing s, finishes true s (Constant (pos 0)) (held_based h))
 
 in_brackets : (s : List Frame) (all : List Placed) → Good (WantOpen s) all → CanEnd (WantOpen s)
-in_brackets s all g = (at anywhere Open ∷ (at anywhere (Number 0) ∷ closing s), finishes true s (Constant (pos 0)) (open_based g))
+in_brackets s all g =
+    (at anywhere Open ∷ (at anywhere (Number 0) ∷ closing s), finishes true s (Constant (pos 0)) (open_based g))
 
 has_end : (b : Bool) (s : List Frame) (t : Tree) (all : List Placed) → Good (Have b s t) all → CanEnd (Have b s t)
 has_end b s t all (has w) = (closing s, finishes b s t (held_based w.held))
 
-two_end : (p : Place) (s : List Frame) (t : Tree) (all : List Placed) → Good (WantTwo p s t) all → CanEnd (WantTwo p s t)
+two_end : (p : Place) (s : List Frame) (t : Tree) (all : List Placed) → Good (WantTwo p s t) all
+    → CanEnd (WantTwo p s t)
 two_end p s t all (two _ w e) = (at anywhere (Number 2) ∷ closing s, finishes false s (Square p t) (held_based w.held))
 
-span_based : (p : Place) (s : List Frame) (t : Tree) (part : Part) (seen : Seen) (all : List Placed) → Good (InSpan p s t part seen) all
+span_based : (p : Place) (s : List Frame) (t : Tree) (part : Part) (seen : Seen) (all : List Placed)
+    → Good (InSpan p s t part seen) all
     → IsBased s
 span_based p s t part seen all (in_span _ w so e) = held_based w.held
 
-span_end : (p : Place) (s : List Frame) (t : Tree) (part : Part) (seen : Seen) → IsBased s → CanEnd (InSpan p s t part seen)
-span_end p s t Rows Nothing h = (at anywhere Comma ∷ (at anywhere CloseSquare ∷ closing s), finishes true s (Slice p t Every Every) h)
-span_end p s t Rows (Once n) h = (at anywhere Comma ∷ (at anywhere CloseSquare ∷ closing s), finishes true s (Slice p t (One n) Every) h)
+span_end : (p : Place) (s : List Frame) (t : Tree) (part : Part) (seen : Seen) → IsBased s
+    → CanEnd (InSpan p s t part seen)
+span_end p s t Rows Nothing h =
+    (at anywhere Comma ∷ (at anywhere CloseSquare ∷ closing s), finishes true s (Slice p t Every Every) h)
+span_end p s t Rows (Once n) h =
+    (at anywhere Comma ∷ (at anywhere CloseSquare ∷ closing s), finishes true s (Slice p t (One n) Every) h)
 span_end p s t Rows (Parted n) h = (
   at anywhere (Number 0) ∷ (at anywhere Comma ∷ (at anywhere CloseSquare ∷ closing s)),
   finishes true s
@@ -142,10 +156,12 @@ some_end (WantOpen s) all g h = in_brackets s all g
 some_end (Have b s t) all g h = has_end b s t all g
 some_end (WantTwo p s t) all g h = two_end p s t all g
 some_end (InSpan p s t part seen) all g h = span_end p s t part seen (span_based p s t part seen all g)
-some_end (ReadOpen n) all g h = (at anywhere Open ∷ (at anywhere (Text (97 ∷ [])) ∷ (at anywhere Close ∷ [])), (ReadOf n (97 ∷ []), refl))
+some_end (ReadOpen n) all g h =
+    (at anywhere Open ∷ (at anywhere (Text (97 ∷ [])) ∷ (at anywhere Close ∷ [])), (ReadOf n (97 ∷ []), refl))
 some_end (ReadText n) all g h = (at anywhere (Text (97 ∷ [])) ∷ (at anywhere Close ∷ []), (ReadOf n (97 ∷ []), refl))
 some_end (ReadClose n f) all g h = (at anywhere Close ∷ [], (ReadOf n f, refl))
-some_end (FileText k p t) all g h = (at anywhere (Text (97 ∷ [])) ∷ (at anywhere Close ∷ []), (SaveOf k p t anywhere (97 ∷ []), refl))
+some_end (FileText k p t) all g h =
+    (at anywhere (Text (97 ∷ [])) ∷ (at anywhere Close ∷ []), (SaveOf k p t anywhere (97 ∷ []), refl))
 some_end (FileClose k p t q f) all g h = (at anywhere Close ∷ [], (SaveOf k p t q f, refl))
 some_end (Whole x) all g h = ([], (x, refl))
 some_end Dead all g h = absurd (h refl)
@@ -164,7 +180,8 @@ none_some e = cc
 
 pub begins_live : (ts : List Placed) → Begins ts → run Start ts ≢ Dead
 begins_live ts b dead =
-    let d : run Start (ts ++ b.0) ≡ Dead = run-append Start ts b.0 ∙ (ap (λ (u : State). run u b.0) dead ∙ dead_stays b.0) in
+    let d : run Start (ts ++ b.0) ≡ Dead = run-append Start ts b.0
+    ∙ (ap (λ (u : State). run u b.0) dead ∙ dead_stays b.0) in
     none_some (ap finish (sym d) ∙ reads_whole b.2)
 
 -- what a statement reads is live

@@ -3,17 +3,22 @@ use Rattle.std.proofs.Common.{◌≡◌, ◌≢◌, ℕ, Bool, true, false, List
 use Rattle.std.proofs.lemmas.Bool.{cases_lt}
 use Rattle.std.proofs.lemmas.Bool.Decides.{nat_tests}
 use Rattle.cla_grammar.specs.declared.place.Place.{Place}
-use Rattle.cla_grammar.specs.Tokens.{Token, Placed, Number, Name, Text, Sign, Assign, Power, Open, Close, Comma, OpenSquare, CloseSquare}
+use Rattle.cla_grammar.specs.Tokens.{Token, Placed, Number, Name, Text, Sign, Assign, Power, Open, Close, Comma}
+use Rattle.cla_grammar.specs.Tokens.{OpenSquare, CloseSquare}
 use Rattle.cla_grammar.specs.Tokens.{Colon, Function, Binder, Read, Print, Save}
 use Rattle.cla_grammar.specs.Tree.{Tree, Span, Every, One, Pair, Square, Statement, ReadOf, SaveOf}
 use Rattle.cla_num.specs.declared.cell_op.CellOp.TheVariants.{Sub}
 use Rattle.cla_grammar.specs.declared.words.BinOp.{BinOp}
 use Rattle.cla_grammar.specs.declared.words.BinOp.TheVariants.{Cell}
 use Rattle.cla_grammar.specs.declared.words.SaveWord.{SaveWord}
-use Rattle.cla_grammar.specs.Machine.{Frame, Paren, Argument, First, Second, Letting, Printing, Saving, reduce, State, Start, After, Want}
-use Rattle.cla_grammar.specs.Machine.{WantOpen, Have, InSpan, WantTwo, ReadOpen, ReadText, ReadClose, FileText, FileClose, Whole, Dead}
-use Rattle.cla_grammar.specs.Machine.{Part, Rows, Cols, Seen, Nothing, Once, Parted, Both, start, assign, close, next_argument, begin}
-use Rattle.cla_grammar.specs.Machine.{read, want, have, open_only, if_two, two_only, ended, span_step, read_text, file_text, close_only}
+use Rattle.cla_grammar.specs.Machine.{Frame, Paren, Argument, First, Second, Letting, Printing, Saving, reduce, State}
+use Rattle.cla_grammar.specs.Machine.{Start, After, Want}
+use Rattle.cla_grammar.specs.Machine.{WantOpen, Have, InSpan, WantTwo, ReadOpen, ReadText, ReadClose, FileText}
+use Rattle.cla_grammar.specs.Machine.{FileClose, Whole, Dead}
+use Rattle.cla_grammar.specs.Machine.{Part, Rows, Cols, Seen, Nothing, Once, Parted, Both, start, assign, close}
+use Rattle.cla_grammar.specs.Machine.{next_argument, begin}
+use Rattle.cla_grammar.specs.Machine.{read, want, have, open_only, if_two, two_only, ended, span_step, read_text}
+use Rattle.cla_grammar.specs.Machine.{file_text, close_only}
 use Rattle.cla_grammar.specs.Machine.{step, run}
 use Rattle.cla_grammar.specs.Faults.{is_power, after_power, square_after, in_square}
 use Rattle.cla_grammar.specs.Reader.{waits, spans}
@@ -80,10 +85,12 @@ open_marked _ u a b h = absurd (h refl)
 
 if_two_marked : (n : ℕ) (p : Place) (s : List Frame) (t : Tree) → Marked false (Number n) (if_two n p s t)
 if_two_marked n p s t = elim (cases_lt n 2) [
-  | inl low ↦ let e : if_two n p s t ≡ Dead = grind (arith, nat_tests) in subst (λ (u : State). Marked false (Number n) u) (sym e)
+  | inl low ↦ let e : if_two n p s t ≡ Dead =
+      grind (arith, nat_tests) in subst (λ (u : State). Marked false (Number n) u) (sym e)
       (dead_marked false (Number n))
   | inr high ↦ elim (cases_lt 2 n) [
-    | inl big ↦ let e : if_two n p s t ≡ Dead = grind (arith, nat_tests) in subst (λ (u : State). Marked false (Number n) u) (sym e)
+    | inl big ↦ let e : if_two n p s t ≡ Dead =
+        grind (arith, nat_tests) in subst (λ (u : State). Marked false (Number n) u) (sym e)
         (dead_marked false (Number n))
     | inr small ↦ let e : if_two n p s t ≡ Have false s (Square p t) = grind (arith, nat_tests) in
         subst (λ (u : State). Marked false (Number n) u) (sym e) (λ _. (refl, refl))
@@ -94,7 +101,8 @@ two_marked : (k : Token) (p : Place) (s : List Frame) (t : Tree) → Marked fals
 two_marked (Number n) p s t h = if_two_marked n p s t h
 two_marked _ p s t h = absurd (h refl)
 
-ended_marked : (k : Token) (p : Place) (s : List Frame) (t : Tree) (part : Part) (span : Span) → Marked true k (ended k p s t part span)
+ended_marked : (k : Token) (p : Place) (s : List Frame) (t : Tree) (part : Part) (span : Span)
+    → Marked true k (ended k p s t part span)
 ended_marked Comma p s t Rows span h = (refl, refl)
 ended_marked CloseSquare p s t (Cols rows) span h = (refl, refl)
 ended_marked _ p s t part span h = absurd (h refl)

@@ -1,5 +1,6 @@
 -- Items that are gathered by the code of their row.
-use Rattle.std.proofs.Common.{◌≡◌, true, false, Bool, ℕ, ℤ, pos, suc, ◌+◌, ◌*◌, ◌<◌, ◌≤◌, ◌+ℤ◌, List, length, map, set, cond, eqb, ap}
+use Rattle.std.proofs.Common.{◌≡◌, true, false, Bool, ℕ, ℤ, pos, suc, ◌+◌, ◌*◌, ◌<◌, ◌≤◌, ◌+ℤ◌, List, length, map}
+use Rattle.std.proofs.Common.{set, cond, eqb, ap}
 use Rattle.std.proofs.Common.{sym, ◌∙◌, arith, inl, inr}
 use Rattle.std.proofs.lemmas.Bool.{cases_eq, eq-eqb, ne_eqb}
 use Rattle.std.proofs.lemmas.List.{get_or-set_same, get_or-set_other, length-set}

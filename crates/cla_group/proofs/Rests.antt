@@ -1,5 +1,6 @@
 -- The rest of the tuples of a group.
-use Rattle.std.proofs.Common.{◌≡◌, true, false, Bool, Some, None, ℕ, ℤ, ◌<◌, List, [], length, get_or, cond, ltb, refl, ap, sym, ◌∙◌, arith}
+use Rattle.std.proofs.Common.{◌≡◌, true, false, Bool, Some, None, ℕ, ℤ, ◌<◌, List, [], length, get_or, cond, ltb}
+use Rattle.std.proofs.Common.{refl, ap, sym, ◌∙◌, arith}
 use Rattle.std.specs.List.{position_or_len}
 use Rattle.std.specs.Option.{unwrap_or}
 use Rattle.std.proofs.lemmas.Bool.{lt-ltb, le-ltb}

@@ -1,6 +1,7 @@
 //! Dictionaries.
 
-ghost use Rattle.std.specs.Prelude.{◌≡◌, ◌<◌, ◌≤◌, ◌*◌, ◌-◌, ◌/◌, ℕ, List, [], length, map, take, drop, slice_index_or, IfOk};
+ghost use Rattle.std.specs.Prelude.{◌≡◌, ◌<◌, ◌≤◌, ◌*◌, ◌-◌, ◌/◌, ℕ, List, [], length, map, take, drop};
+ghost use Rattle.std.specs.Prelude.{slice_index_or, IfOk};
 ghost use Rattle.cla_layout.specs.Groups.{code_of, value_of, IsGroup};
 ghost use Rattle.cla_layout.specs.Tuples.{tuples_of, AreCodes};
 ghost use Rattle.cla_group.specs.Rows.{ArePlaces, projected};

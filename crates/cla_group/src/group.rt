@@ -4,7 +4,8 @@ ghost use Rattle.std.specs.Prelude.{◌≡◌, ◌<◌, ◌+ℤ◌, ℕ, ℤ, Li
 ghost use Rattle.std.specs.Int.{w128, int_min, int_max};
 ghost use Rattle.std.specs.Int.RustNames.{FitsSigned};
 ghost use Rattle.cla_num.specs.Bits.{IsSupported};
-ghost use Rattle.cla_layout.specs.Groups.{at, code_of, value_of, occurrences_of, first_row_of, gathered, Scattered, IsGroup};
+ghost use Rattle.cla_layout.specs.Groups.{at, code_of, value_of, occurrences_of, first_row_of, gathered, Scattered};
+ghost use Rattle.cla_layout.specs.Groups.{IsGroup};
 
 use crate::items::gather_row;
 use cla_num::{Number, Wide};

@@ -1,5 +1,6 @@
 -- A table of one group of one column.
-use Rattle.std.proofs.Common.{◌≡◌, Bool, false, ℕ, ℤ, zero, suc, ◌<◌, ◌≤◌, List, [], ◌∷◌, length, cond, eqb, refl, arith, inl, inr}
+use Rattle.std.proofs.Common.{◌≡◌, Bool, false, ℕ, ℤ, zero, suc, ◌<◌, ◌≤◌, List, [], ◌∷◌, length, cond, eqb, refl}
+use Rattle.std.proofs.Common.{arith, inl, inr}
 use Rattle.std.proofs.lemmas.Bool.{cases_Bool, eqb-true}
 use Rattle.std.proofs.lemmas.List.Sums.{sum_by-cons}
 use Rattle.cla_layout.specs.Groups.{IsGroup}

@@ -1,7 +1,9 @@
 -- Which columns are grouped (co-coding, PVLDB 9(12), section 4). The paper estimates what a group would take from a
--- sample; here it is counted. Columns are taken from left to right, and each joins the group of the last 16 that saves the
+-- sample; here it is counted. Columns are taken from left to right, and each joins the group of the last 16 that
+-- saves the
 -- most bytes by it, or stands alone where none saves any.
-use Rattle.std.specs.Prelude.{ℕ, ◌+◌, ◌-◌, ◌^◌, List, [], ◌∷◌, ◌++◌, length, map, drop, fold, sum_by, max, ◌==◌, nat_lt, nat_le, if◌then◌else◌, slice_index_or, slice_set}
+use Rattle.std.specs.Prelude.{ℕ, ◌+◌, ◌-◌, ◌^◌, List, [], ◌∷◌, ◌++◌, length, map, drop, fold, sum_by, max, ◌==◌}
+use Rattle.std.specs.Prelude.{nat_lt, nat_le, if◌then◌else◌, slice_index_or, slice_set}
 use Rattle.std.specs.List.{range_with_len, position_or_len}
 use Rattle.cla_spec.specs.Matrix.{Matrix}
 use Rattle.cla_layout.specs.declared.kind.Kind.{Kind}

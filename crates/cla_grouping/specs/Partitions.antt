@@ -14,7 +14,8 @@ abbrev pub times_in : List (List ℕ) → ℕ → ℕ
 times_in [] j = 0
 times_in (group ∷ groups) j = count_of group j + times_in groups j
 
--- each of the first `cols` columns is in one group, and no other is; the columns of a group rise; and the groups stand in
+-- each of the first `cols` columns is in one group, and no other is; the columns of a group rise; and the groups
+-- stand in
 -- the order of their first columns
 pub record ArePartitioned (cols : ℕ) (groups : List (List ℕ)) : Type 0 where
   pub each : (q : ℕ) → q < length groups → AreColumns cols (slice_index_or groups q [])

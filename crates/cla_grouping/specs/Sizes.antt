@@ -1,5 +1,6 @@
 -- How many bytes columns take as one group, of each kind, in packed files; and which kind takes the fewest.
-use Rattle.std.specs.Prelude.{◌≡◌, ℕ, ◌+◌, ◌-◌, ◌*◌, ◌/◌, ◌^◌, ◌<◌, ◌≤◌, List, [], ◌∷◌, length, Bool, ◌&&◌, not, Option, Some, None, nat_lt, nat_le, max, if◌then◌else◌}
+use Rattle.std.specs.Prelude.{◌≡◌, ℕ, ◌+◌, ◌-◌, ◌*◌, ◌/◌, ◌^◌, ◌<◌, ◌≤◌, List, [], ◌∷◌, length, Bool, ◌&&◌, not}
+use Rattle.std.specs.Prelude.{Option, Some, None, nat_lt, nat_le, max, if◌then◌else◌}
 use Rattle.cla_spec.specs.Matrix.{most_cells}
 use Rattle.cla_layout.specs.Groups.{code_of}
 use Rattle.cla_layout.specs.Kinds.{kind_number}
@@ -118,7 +119,8 @@ pub record AreNoLess (f g : Figures) : Type 0 where
 abbrev pub with_tuples_of : Figures → ℕ → Figures
 with_tuples_of f distinct = record f { distinct = max f.distinct distinct; listed = max f.listed (distinct - 1) }
 
--- A group of more tuples than so many is no smaller than a target, where all its figures are no less than these. A group
+-- A group of more tuples than so many is no smaller than a target, where all its figures are no less than these. A
+-- group
 -- has all tuples listed, or all but one.
 abbrev pub IsPast : Figures → ℕ → ℕ → Type 0
 IsPast f target most = (g : Figures) → AreNoLess f g → g.distinct ≤ f.rows → g.distinct ≤ g.listed + 1

@@ -1,5 +1,6 @@
 -- The tuples of some columns of a matrix (PVLDB 9(12), section 3): the rows, cut to these columns.
-use Rattle.std.specs.Prelude.{◌≡◌, ℕ, ℤ, pos, ◌+◌, ◌*◌, ◌<◌, ◌≤◌, List, length, map, Bool, ◌&&◌, nat_lt, Option, Some, None, if◌then◌else◌}
+use Rattle.std.specs.Prelude.{◌≡◌, ℕ, ℤ, pos, ◌+◌, ◌*◌, ◌<◌, ◌≤◌, List, length, map, Bool, ◌&&◌, nat_lt, Option, Some}
+use Rattle.std.specs.Prelude.{None, if◌then◌else◌}
 use Rattle.std.specs.List.{position_or_len, list_all, range_with_len}
 use Rattle.std.specs.Ordering.{int_eq}
 use Rattle.cla_spec.specs.Matrix.{Matrix, entry, most_cells}
@@ -23,7 +24,8 @@ tuple_in_row m columns i = map (entry m i) columns
 abbrev pub distinct_tuples : Matrix → List ℕ → List (List ℤ)
 distinct_tuples m columns = map (tuple_in_row m columns) (first_rows_by (same_tuple m columns) m.rows)
 
--- What the sizes of columns hang on: how many columns there are, how many distinct tuples, the code of each row's tuple,
+-- What the sizes of columns hang on: how many columns there are, how many distinct tuples, the code of each row's
+-- tuple,
 -- and the code of the tuple of zeros, where it occurs.
 pub record TuplesOf : Type 0 where
   pub width : ℕ
@@ -60,7 +62,8 @@ pub record AreColumns (cols : ℕ) (columns : List ℕ) : Type 0 where
   pub rising : (c d : ℕ) → c < d → d < length columns → code_of columns c < code_of columns d
   pub within : (c : ℕ) → c < length columns → code_of columns c < cols
 
--- what holds of the tuples of columns: rows and columns, few cells, each code names a tuple, and no more tuples than rows
+-- what holds of the tuples of columns: rows and columns, few cells, each code names a tuple, and no more tuples than
+-- rows
 pub record AreTuples (t : TuplesOf) : Type 0 where
   pub a_row : 1 ≤ length t.codes
   pub a_column : 1 ≤ t.width

@@ -1,5 +1,6 @@
 -- Lines that are taken at once.
-use Rattle.std.proofs.Common.{◌≡◌, ℕ, zero, suc, ◌+◌, ◌-◌, ◌≤◌, List, length, take, drop, Some, refl, sym, subst, ap, ◌∙◌, arith, length-drop, length-take}
+use Rattle.std.proofs.Common.{◌≡◌, ℕ, zero, suc, ◌+◌, ◌-◌, ◌≤◌, List, length, take, drop, Some, refl, sym, subst, ap}
+use Rattle.std.proofs.Common.{◌∙◌, arith, length-drop, length-take}
 use Rattle.cla_io.specs.Lines.{Progress, IsLfPlace}
 use Rattle.cla_io.specs.Ahead.{AreLines, ahead_in_limit}
 

@@ -1,5 +1,6 @@
 -- What files in memory tell, by a look-up.
-use Rattle.std.proofs.Common.{arith, ◌≡◌, ℕ, List, [], ◌∷◌, Option, Some, None, option_map, Bool, cond, true, false, refl, sym, ap, ◌∙◌, Bor}
+use Rattle.std.proofs.Common.{arith, ◌≡◌, ℕ, List, [], ◌∷◌, Option, Some, None, option_map, Bool, cond, true, false}
+use Rattle.std.proofs.Common.{refl, sym, ap, ◌∙◌, Bor}
 use Rattle.std.specs.Prelude.{option_copied, IsSome, unwrap_or, ◌++◌}
 use Rattle.std.specs.Ordering.{nat_cmp, is_eq, eq_by_cmp}
 use Rattle.std.specs.Cmp.Lexicographic.{slice_cmp, nat_list_cmp_total}

@@ -1,5 +1,7 @@
 -- The end of a line among bytes, and a line that is taken of those that are held.
-use Rattle.std.proofs.Common.{◌≡◌, ℕ, not, ◌+◌, ◌-◌, ◌<◌, ◌≤◌, List, ◌++◌, length, take, drop, take-take, slice_range, Option, Some, None, Bool, true, false, Result, Ok, Err, refl, ap, sym, ◌∙◌, arith, length-drop, length-append, length-take}
+use Rattle.std.proofs.Common.{◌≡◌, ℕ, not, ◌+◌, ◌-◌, ◌<◌, ◌≤◌, List, ◌++◌, length, take, drop, take-take, slice_range}
+use Rattle.std.proofs.Common.{Option, Some, None, Bool, true, false, Result, Ok, Err, refl, ap, sym, ◌∙◌, arith}
+use Rattle.std.proofs.Common.{length-drop, length-append, length-take}
 use Rattle.std.proofs.lemmas.Bool.{false_from_ne_true, ne_eqb}
 use Rattle.std.proofs.lemmas.List.{nil_from_length, drop-append-le, take-append-le, length-take-le}
 use Rattle.std.proofs.lemmas.List.Folds.{prefix_len-append}

@@ -1,5 +1,6 @@
 -- The bytes of a buffer, after some were taken and after a read.
-use Rattle.std.proofs.Common.{◌≡◌, ℕ, ◌+◌, ◌-◌, ◌≤◌, List, [], take, drop, slice_range, Option, Some, None, refl, sym, ap, ◌∙◌, arith}
+use Rattle.std.proofs.Common.{◌≡◌, ℕ, ◌+◌, ◌-◌, ◌≤◌, List, [], take, drop, slice_range, Option, Some, None, refl, sym}
+use Rattle.std.proofs.Common.{ap, ◌∙◌, arith}
 use Rattle.std.proofs.lemmas.List.{drop-take, drop-drop, take-append-drop}
 use Rattle.cla_spec.specs.Files.{Told}
 use Rattle.cla_io.specs.State.{Reading, left_in, left_where_told}

@@ -1,5 +1,6 @@
 -- Numbers that are taken of a file, and the bytes at its start.
-use Rattle.std.specs.Prelude.{◌≡◌, ◌≢◌, ℕ, ◌+◌, ◌*◌, ◌^◌, ◌<◌, ◌≤◌, min, List, [], ◌∷◌, take, drop, length, Option, Some, None, Bool, true, false, ◌==◌, ◌||◌, Result, Ok, Err}
+use Rattle.std.specs.Prelude.{◌≡◌, ◌≢◌, ℕ, ◌+◌, ◌*◌, ◌^◌, ◌<◌, ◌≤◌, min, List, [], ◌∷◌, take, drop, length, Option}
+use Rattle.std.specs.Prelude.{Some, None, Bool, true, false, ◌==◌, ◌||◌, Result, Ok, Err}
 use Rattle.cla_spec.specs.Bytes.{number_of}
 use Rattle.cla_io.specs.declared.stop.InFault.{InFault}
 use Rattle.cla_io.specs.declared.stop.InFault.TheVariants.{Read, TooLong, Memory}

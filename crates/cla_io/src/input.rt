@@ -2,7 +2,8 @@
 
 ghost use Rattle.std.specs.Prelude.{◌≡◌, ◌+◌, ◌<◌, ◌≤◌, ◌^◌, [], false, true, Ok, Some, IsSome, IsOk, IfOk, OnOk};
 ghost use Rattle.cla_io.specs.State.{left};
-ghost use Rattle.cla_io.specs.Lines.{TakesLine, TakesLineWhereTold, IsLfPlace, CountsLine, TakesWholeWhereTold, CountsWhole, InCause, ahead_of, line_number_of, line_width};
+ghost use Rattle.cla_io.specs.Lines.{TakesLine, TakesLineWhereTold, IsLfPlace, CountsLine, TakesWholeWhereTold};
+ghost use Rattle.cla_io.specs.Lines.{CountsWhole, InCause, ahead_of, line_number_of, line_width};
 ghost use Rattle.cla_io.specs.Ahead.{AreLines, ahead_in_limit, after_lines};
 ghost use Rattle.cla_io.specs.InputFrame.{ReadsOn, IsAtStart};
 

@@ -101,7 +101,8 @@ impl MemFiles {
 }
 
 impl Files for MemFiles {
-    ghost use Rattle.std.specs.Prelude.{◌≡◌, ◌≢◌, ◌<◌, ◌↔◌, Some, None, Err, IsSome, IfOk, Contains, length, option_map};
+    ghost use Rattle.std.specs.Prelude.{◌≡◌, ◌≢◌, ◌<◌, ◌↔◌, Some, None, Err, IsSome, IfOk, Contains, length};
+    ghost use Rattle.std.specs.Prelude.{option_map};
     ghost use Rattle.cla_io.specs.declared.stop.CallKind.TheVariants.{BeginRead, Read, BeginWrite, Write, EndWrite};
     ghost use Rattle.cla_io.specs.Counts.{HasCause};
     ghost use Rattle.cla_io.specs.Reads.{OnlyReads, BeginsRead, Reads};

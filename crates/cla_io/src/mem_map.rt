@@ -1,6 +1,7 @@
 //! Files in memory, as a map from names to bytes.
 
-ghost use Rattle.std.specs.Prelude.{◌≡◌, ◌+◌, ◌^◌, ◌<◌, ◌++◌, [], is_some, option_map, min, take, drop, length, IsSome, OnOk, OnErr};
+ghost use Rattle.std.specs.Prelude.{◌≡◌, ◌+◌, ◌^◌, ◌<◌, ◌++◌, [], is_some, option_map, min, take, drop, length};
+ghost use Rattle.std.specs.Prelude.{IsSome, OnOk, OnErr};
 ghost use Rattle.std.specs.FinMap as fin;
 ghost use Rattle.cla_spec.specs.Files.{bytes_at};
 ghost use Rattle.cla_io.specs.MemTold.{told_of};

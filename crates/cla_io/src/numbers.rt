@@ -5,7 +5,8 @@ ghost use Rattle.cla_spec.specs.Bytes.{number_of};
 ghost use Rattle.cla_io.specs.State.{left};
 ghost use Rattle.cla_io.specs.Lines.{InCause, IsNotTooLong, SameBytes, IsAllRead, OnlyHolds, ahead_of};
 ghost use Rattle.cla_io.specs.InputFrame.{ReadsOn};
-ghost use Rattle.cla_io.specs.Numbers.{is_number_width, TakesNumber, TakesNumberWhereTold, CountsNumber, OnlyTooLongNumber, BeginsWhereTold};
+ghost use Rattle.cla_io.specs.Numbers.{is_number_width, TakesNumber, TakesNumberWhereTold, CountsNumber};
+ghost use Rattle.cla_io.specs.Numbers.{OnlyTooLongNumber, BeginsWhereTold};
 ghost use Rattle.cla_io.specs.Window.{items, size_of};
 
 use crate::files::Files;
@@ -167,7 +168,8 @@ impl<'a, F: Files> InputOver<'a, F, Taken> {
         requires { self.old.taken.at ≡ 0 }
         ensures same_reference { self.new.files.ghost_name ≡ self.old.files.ghost_name }
         ensures frame { ReadsOn (F.state self.old.files.now) (F.state self.new.files.now) }
-        ensures cause { InCause (F.state self.old.files.now).read_faults (F.state self.new.files.now).read_faults result }
+        ensures cause { let before = (F.state self.old.files.now).read_faults in
+            InCause before (F.state self.new.files.now).read_faults result }
         ensures begins { BeginsWhereTold magic.now (ahead_of self.old.taken (left (F.state self.old.files.now)))
             (ahead_of self.new.taken (left (F.state self.new.files.now))) result }
         ensures kept { OnlyHolds self.old.taken self.new.taken }
@@ -187,7 +189,8 @@ impl<'a, F: Files> InputOver<'a, F, Taken> {
         requires { is_number_width n ≡ true }
         ensures same_reference { self.new.files.ghost_name ≡ self.old.files.ghost_name }
         ensures frame { ReadsOn (F.state self.old.files.now) (F.state self.new.files.now) }
-        ensures cause { InCause (F.state self.old.files.now).read_faults (F.state self.new.files.now).read_faults result }
+        ensures cause { let before = (F.state self.old.files.now).read_faults in
+            InCause before (F.state self.new.files.now).read_faults result }
         ensures limit { self.new.taken.limit ≡ self.old.taken.limit }
         ensures number { TakesNumberWhereTold n self.old.taken
             (ahead_of self.old.taken (left (F.state self.old.files.now)))

@@ -3,7 +3,8 @@
 ghost use Rattle.std.specs.Prelude.{◌≡◌, ◌≤◌, ◌^◌, [], length, take, false, true, Some, IfOk, OnErr, OnOk, IsSome};
 ghost use Rattle.cla_spec.specs.Lines.{without_cr};
 ghost use Rattle.cla_io.specs.State.{left};
-ghost use Rattle.cla_io.specs.Lines.{TakesLine, TakesLineWhereTold, TakesWholeWhereTold, CountsLine, CountsWhole, OnlyTooLong, IsLfPlace, InCause, HasNoLf, ahead_of, line_number_of};
+ghost use Rattle.cla_io.specs.Lines.{TakesLine, TakesLineWhereTold, TakesWholeWhereTold, CountsLine, CountsWhole};
+ghost use Rattle.cla_io.specs.Lines.{OnlyTooLong, IsLfPlace, InCause, HasNoLf, ahead_of, line_number_of};
 ghost use Rattle.cla_io.specs.Ahead.{AreLines, ahead_in_limit, after_lines};
 ghost use Rattle.cla_io.specs.InputFrame.{ReadsOn};
 

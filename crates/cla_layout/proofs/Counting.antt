@@ -1,5 +1,6 @@
 -- Groups whose rows are their tuples: row i has code i.
-use Rattle.std.proofs.Common.{◌≡◌, true, false, ℕ, ℤ, zero, suc, ◌+◌, ◌<◌, ◌≤◌, List, length, map, take, eqb, refl, ap, sym, ◌∙◌, arith}
+use Rattle.std.proofs.Common.{◌≡◌, true, false, ℕ, ℤ, zero, suc, ◌+◌, ◌<◌, ◌≤◌, List, length, map, take, eqb, refl}
+use Rattle.std.proofs.Common.{ap, sym, ◌∙◌, arith}
 use Rattle.std.proofs.Common.{inl, inr}
 use Rattle.std.specs.List.{range_with_len, count_by}
 use Rattle.std.proofs.lemmas.Bool.{cases_eq, eq-eqb, ne_eqb}

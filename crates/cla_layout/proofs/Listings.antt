@@ -1,9 +1,11 @@
 -- Rows that are listed by code.
-use Rattle.std.proofs.Common.{◌≡◌, true, false, Bool, ℕ, ℤ, pos, zero, suc, ◌+◌, ◌<◌, ◌≤◌, ◌+ℤ◌, List, [], ◌∷◌, ◌++◌, length, map, take}
+use Rattle.std.proofs.Common.{◌≡◌, true, false, Bool, ℕ, ℤ, pos, zero, suc, ◌+◌, ◌<◌, ◌≤◌, ◌+ℤ◌, List, [], ◌∷◌, ◌++◌}
+use Rattle.std.proofs.Common.{length, map, take}
 use Rattle.std.proofs.Common.{cond, eqb, refl, ap, subst, sym, ◌∙◌, append_assoc, arith, inl, inr}
 use Rattle.std.specs.List.{filter, range_with_len, list_any, count_by}
 use Rattle.std.proofs.lemmas.Bool.{cases_Bool, cases_lt, cases_eq, eq-eqb, ne_eqb, both_ways, or_from}
-use Rattle.std.proofs.lemmas.List.{map-id, append-nil, length_push, get_or_push, get_or_append_left, length-append, map-append, take_all}
+use Rattle.std.proofs.lemmas.List.{map-id, append-nil, length_push, get_or_push, get_or_append_left, length-append}
+use Rattle.std.proofs.lemmas.List.{map-append, take_all}
 use Rattle.std.proofs.lemmas.List.Folds.{list_any_at}
 use Rattle.std.proofs.lemmas.List.FromFn.{filter_of_map_range_with_len_more}
 use Rattle.std.proofs.lemmas.List.Sums.{count_by_more_yes, count_by_more_no}

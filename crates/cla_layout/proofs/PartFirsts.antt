@@ -1,11 +1,13 @@
 -- First places and extremes over the parts of a layout.
-use Rattle.std.proofs.Common.{◌≡◌, ℕ, ℤ, ◌<◌, ◌≤◌, ◌↔◌, List, length, get_or, Option, None, Some, refl, ap, subst, sym, ◌∙◌, arith}
+use Rattle.std.proofs.Common.{◌≡◌, ℕ, ℤ, ◌<◌, ◌≤◌, ◌↔◌, List, length, get_or, Option, None, Some, refl, ap, subst}
+use Rattle.std.proofs.Common.{sym, ◌∙◌, arith}
 use Rattle.std.proofs.lemmas.Bool.{ltb-true}
 use Rattle.cla_layout.specs.Groups.{code_of, value_of, cell_of, first_row_of}
 use Rattle.cla_layout.proofs.Regroup.{first_row_there, code_of_first_row, first_row_least}
 use Rattle.cla_layout.specs.Layouts.{LayoutPart, Layout, IsWhole, no_part, part_at, column_at, index_of, entry_in}
 use Rattle.cla_layout.specs.Firsts.{IsFirstOf, least_of, IsFirstFault, earliest_fault, IsExtremeEntry}
-use Rattle.cla_layout.proofs.Leasts.{IsLeast, least_same, OfAny, least_of_all, alone, all_alone, least_alone, length-all_alone}
+use Rattle.cla_layout.proofs.Leasts.{IsLeast, least_same, OfAny, least_of_all, alone, all_alone, least_alone}
+use Rattle.cla_layout.proofs.Leasts.{length-all_alone}
 use Rattle.cla_layout.proofs.Leasts.{get_or-all_alone}
 use Rattle.cla_layout.specs.Laws.{first_cell, IsFirstFaultOfPart, IsExtremeOfParts}
 use Rattle.cla_layout.proofs.Wholes.{some_part, entry_of_part, own_column, own_column_within}

@@ -1,5 +1,6 @@
 -- How many values the parts of a layout have.
-use Rattle.std.proofs.Common.{◌≡◌, ℕ, ℤ, pos, zero, suc, ◌+◌, ◌*◌, ◌<◌, ◌≤◌, ◌+ℤ◌, ◌*ℤ◌, List, [], ◌∷◌, length, take, sum_by, cond, eqb}
+use Rattle.std.proofs.Common.{◌≡◌, ℕ, ℤ, pos, zero, suc, ◌+◌, ◌*◌, ◌<◌, ◌≤◌, ◌+ℤ◌, ◌*ℤ◌, List, [], ◌∷◌, length, take}
+use Rattle.std.proofs.Common.{sum_by, cond, eqb}
 use Rattle.std.proofs.Common.{Bool, true, false, refl, ap, sym, ◌∙◌, arith, inl, inr, length-append}
 use Rattle.std.proofs.Math.IntN.{one, *ℤ-one}
 use Rattle.std.proofs.Math.Nat.{mul-le-mul_right}

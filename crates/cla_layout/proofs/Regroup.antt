@@ -1,5 +1,6 @@
 -- What is asked of all rows is asked of the dictionary.
-use Rattle.std.proofs.Common.{◌≡◌, true, false, Bool, ℕ, ℤ, zero, suc, pos, ◌+◌, ◌<◌, ◌≤◌, ◌+ℤ◌, ◌*ℤ◌, List, [], ◌∷◌, length, take, cond}
+use Rattle.std.proofs.Common.{◌≡◌, true, false, Bool, ℕ, ℤ, zero, suc, pos, ◌+◌, ◌<◌, ◌≤◌, ◌+ℤ◌, ◌*ℤ◌, List, [], ◌∷◌}
+use Rattle.std.proofs.Common.{length, take, cond}
 use Rattle.std.proofs.Common.{eqb, refl, ap, subst, sym, ◌∙◌, ◌↔◌, arith, inl, inr}
 use Rattle.std.proofs.Math.IntN.{one, zero-*ℤ, *ℤ-one, *ℤ_comm}
 use Rattle.std.proofs.lemmas.Bool.{cases_Bool, cases_lt, eqb-true, eq-eqb}

@@ -21,7 +21,8 @@ HasKind kind.Runs part = AreDistinct part.tuples
 abbrev pub kind_at : List Kind → ℕ → Kind
 kind_at kinds q = slice_index_or kinds q kind.Plain
 
--- a layout of these kinds in the one form: whole, its parts in the order of their first columns, tuples numbered by first
+-- a layout of these kinds in the one form: whole, its parts in the order of their first columns, tuples numbered by
+-- first
 -- row, and each part as its kind asks
 pub record IsCanonical (bits : ℕ) (layout : Layout) (kinds : List Kind) : Type 0 where
   pub whole : IsWhole bits layout

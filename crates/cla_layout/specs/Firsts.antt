@@ -41,7 +41,8 @@ abbrev pub earliest_fault : {W : Type 0} → List (Option (ℕ × W)) → Option
 earliest_fault [] = None
 earliest_fault (first ∷ firsts) = earlier_fault first (earliest_fault firsts)
 
--- v is an entry of a result of this shape, and stands before all of them: the least one, or the greatest, as `Before` says
+-- v is an entry of a result of this shape, and stands before all of them: the least one, or the greatest, as `Before`
+-- says
 pub record IsExtremeEntry (Before : ℤ → ℤ → Type 0) (rows cols : ℕ) (entry : ℕ → ℕ → ℤ) (v : ℤ) : Type 0 where
   pub reached : (i : ℕ) × (j : ℕ) × (i < rows) × (j < cols) × (entry i j ≡ v)
   pub before : (i j : ℕ) → i < rows → j < cols → Before v (entry i j)

@@ -1,4 +1,5 @@
--- Why an operator may work on tuples: what is asked of all rows can be asked of the dictionary, whichever way a group is
+-- Why an operator may work on tuples: what is asked of all rows can be asked of the dictionary, whichever way a group
+-- is
 -- kept.
 use Rattle.std.specs.Prelude.{◌≡◌, ℕ, ℤ, pos, ◌<◌, ◌≤◌, ◌*ℤ◌, List, length, Bool, true, ◌↔◌}
 use Rattle.cla_spec.specs.Numbers.{sum_to}
@@ -21,7 +22,8 @@ abbrev pub WeightedSumsRegroup : Type 0
 WeightedSumsRegroup = (n : ℕ) (codes : List ℕ) (weights : List ℤ) (f : ℕ → ℤ) → AreCodesOf n codes →
     sum_to (λ i. at weights i *ℤ f (code_of codes i)) (length codes) ≡ sum_to (λ k. gathered codes weights k *ℤ f k) n
 
--- v is one of the first n values of f, and stands before all of them: the least one, or the greatest one, as `Before` says
+-- v is one of the first n values of f, and stands before all of them: the least one, or the greatest one, as `Before`
+-- says
 pub record IsExtreme (Before : ℤ → ℤ → Type 0) (f : ℕ → ℤ) (n : ℕ) (v : ℤ) : Type 0 where
   pub reached : (i : ℕ) × (i < n) × (f i ≡ v)
   pub before : (i : ℕ) → i < n → Before v (f i)
@@ -32,8 +34,10 @@ ExtremesRegroup = (n : ℕ) (codes : List ℕ) (before : ℤ → ℤ → Bool) (
     IsExtreme (λ x y. before x y ≡ true) (λ i. f (code_of codes i)) (length codes) v ↔ IsExtreme (λ x y. before x y
     ≡ true) f n v
 
--- The first cell that fails is the least of the cells in the first row of each tuple that fails. What fails is free, and so
--- is the order of the places, as long as a later row of the same column has no earlier place: so this holds of tables and
+-- The first cell that fails is the least of the cells in the first row of each tuple that fails. What fails is free,
+-- and so
+-- is the order of the places, as long as a later row of the same column has no earlier place: so this holds of tables
+-- and
 -- of their transposes.
 abbrev pub FirstPlacesRegroup : Type 0
 FirstPlacesRegroup = (n width : ℕ) (codes : List ℕ) (place : ℕ → ℕ → ℕ) (fails : ℕ → ℕ → Bool) (p : ℕ) →

@@ -1,11 +1,13 @@
 -- What holds of every whole layout.
-use Rattle.std.specs.Prelude.{◌≡◌, ℕ, ℤ, pos, ◌*◌, ◌<◌, ◌≤◌, ◌+ℤ◌, ◌↔◌, List, [], ◌∷◌, length, take, Bool, true, Option, None, slice_index_or}
+use Rattle.std.specs.Prelude.{◌≡◌, ℕ, ℤ, pos, ◌*◌, ◌<◌, ◌≤◌, ◌+ℤ◌, ◌↔◌, List, [], ◌∷◌, length, take, Bool, true}
+use Rattle.std.specs.Prelude.{Option, None, slice_index_or}
 use Rattle.cla_spec.specs.Numbers.{sum_to}
 use Rattle.cla_spec.specs.Matrix.{Matrix, IsShaped, IsWellMade, sum_of_entries}
 use Rattle.cla_num.specs.declared.fault.What.{What}
 use Rattle.cla_layout.specs.Groups.{cell_of, value_of, first_row_of}
 use Rattle.cla_layout.specs.GroupLaws.{AreCodesOf}
-use Rattle.cla_layout.specs.Layouts.{LayoutPart, Layout, StandsFor, IsWhole, column_at, part_at, entry_in, matrix_in, transposed, loose_layout}
+use Rattle.cla_layout.specs.Layouts.{LayoutPart, Layout, StandsFor, IsWhole, column_at, part_at, entry_in, matrix_in}
+use Rattle.cla_layout.specs.Layouts.{transposed, loose_layout}
 use Rattle.cla_layout.specs.Firsts.{IsFirstOf, least_of, IsFirstFault, earliest_fault, IsExtremeEntry, IsReached}
 use Rattle.cla_layout.specs.Values.{values_of, different_codes}
 
@@ -24,7 +26,8 @@ abbrev pub LayoutsStandForOne : Type 0
 LayoutsStandForOne = (bits : ℕ) (layout : Layout) (m : Matrix) → IsWhole bits layout → IsShaped m.rows m.cols m.cells
     → StandsFor layout m → m ≡ matrix_in layout
 
--- a value of each column and the entry in it, added up over the columns of a row, is the same added up over the places of
+-- a value of each column and the entry in it, added up over the columns of a row, is the same added up over the
+-- places of
 -- each part, and over the parts
 abbrev pub RowsSumByParts : Type 0
 RowsSumByParts = (bits : ℕ) (layout : Layout) (f : ℕ → ℤ → ℤ) (i : ℕ) → IsWhole bits layout →
@@ -55,8 +58,10 @@ IsFirstOfPart place fails part first =
     IsFirstOf (length part.tuples) (length part.columns) (first_cell place part)
     (λ k c. fails (column_at part.columns c) (value_of part.tuples k c) ≡ true) first
 
--- The first cell that fails is the least of the first places of the parts, and none fails where none fails in any part. The
--- order of the places is free, as long as a later row of the same column has no earlier place: so this holds of tables and
+-- The first cell that fails is the least of the first places of the parts, and none fails where none fails in any
+-- part. The
+-- order of the places is free, as long as a later row of the same column has no earlier place: so this holds of
+-- tables and
 -- of their transposes.
 abbrev pub FirstPlacesByParts : Type 0
 FirstPlacesByParts = (bits : ℕ) (layout : Layout) (place : ℕ → ℕ → ℕ) (fails : ℕ → ℤ → Bool)

@@ -1,5 +1,6 @@
 -- Layouts of matrices: groups of columns that together hold a matrix (PVLDB 9(12), section 3).
-use Rattle.std.specs.Prelude.{◌≡◌, ℕ, ℤ, pos, ◌*◌, ◌<◌, ◌≤◌, List, [], ◌∷◌, ◌++◌, length, Bool, ◌==◌, nat_lt, if◌then◌else◌, slice_index_or}
+use Rattle.std.specs.Prelude.{◌≡◌, ℕ, ℤ, pos, ◌*◌, ◌<◌, ◌≤◌, List, [], ◌∷◌, ◌++◌, length, Bool, ◌==◌, nat_lt}
+use Rattle.std.specs.Prelude.{if◌then◌else◌, slice_index_or}
 use Rattle.std.specs.List.{range_with_len, count_by, position_or_len}
 use Rattle.cla_spec.specs.Matrix.{Matrix, entry, row_by_row, most_cells}
 use Rattle.cla_layout.specs.Tuples.{tuples_of}

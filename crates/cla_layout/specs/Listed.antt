@@ -1,5 +1,7 @@
--- Rows that are listed by code (PVLDB 9(12), section 3: offset lists and run lengths). One tuple may have no list, the rest.
-use Rattle.std.specs.Prelude.{ℕ, ℤ, pos, ◌-◌, List, length, filter, Option, Some, None, Bool, false, ◌==◌, ◌&&◌, ◌||◌, not, nat_lt, if◌then◌else◌}
+-- Rows that are listed by code (PVLDB 9(12), section 3: offset lists and run lengths). One tuple may have no list,
+-- the rest.
+use Rattle.std.specs.Prelude.{ℕ, ℤ, pos, ◌-◌, List, length, filter, Option, Some, None, Bool, false, ◌==◌, ◌&&◌, ◌||◌}
+use Rattle.std.specs.Prelude.{not, nat_lt, if◌then◌else◌}
 use Rattle.std.specs.List.{range_with_len, position_or_len, list_all}
 use Rattle.std.specs.Ordering.{int_eq}
 use Rattle.cla_layout.specs.Groups.{code_of}

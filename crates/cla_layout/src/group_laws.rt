@@ -1,7 +1,8 @@
 //! Laws of codes and tuples, proved once for every kind of group: what an operator asks of all rows,
 //! it may ask of the dictionary.
 
-ghost use Rattle.cla_layout.specs.GroupLaws.{SumsRegroup, WeightedSumsRegroup, ExtremesRegroup, FirstPlacesRegroup, FaultsRegroup};
+ghost use Rattle.cla_layout.specs.GroupLaws.{SumsRegroup, WeightedSumsRegroup, ExtremesRegroup, FirstPlacesRegroup};
+ghost use Rattle.cla_layout.specs.GroupLaws.{FaultsRegroup};
 
 /// A sum over rows is one over tuples, each as often as it occurs (PVLDB 9(12), section 3).
 pub fn sums_regroup()

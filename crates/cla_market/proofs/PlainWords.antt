@@ -1,5 +1,6 @@
 -- Words that are made of bytes of one kind, and lines of such words.
-use Rattle.std.proofs.Common.{◌≡◌, ℕ, suc, zero, ◌+◌, ◌-◌, ◌<◌, ◌==◌, List, [], ◌∷◌, ◌++◌, length, get_or, true, false, Bool, refl, arith, rules}
+use Rattle.std.proofs.Common.{◌≡◌, ℕ, suc, zero, ◌+◌, ◌-◌, ◌<◌, ◌==◌, List, [], ◌∷◌, ◌++◌, length, get_or, true}
+use Rattle.std.proofs.Common.{false, Bool, refl, arith, rules}
 use Rattle.std.proofs.lemmas.Bool.{and_parts, lt-ltb}
 use Rattle.std.specs.List.{list_all, slice_split, position_or_len}
 use Rattle.cla_spec.specs.Lines.{without_cr}

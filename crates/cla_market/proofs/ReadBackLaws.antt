@@ -1,5 +1,7 @@
 -- The text that is written for a matrix is read as the matrix.
-use Rattle.std.proofs.Common.{◌≡◌, ℕ, ℤ, pos, ◌+◌, ◌*◌, ◌/◌, ◌%◌, ◌^◌, ◌<◌, ◌≤◌, List, [], ◌∷◌, ◌++◌, length, map, get_or, codes, true, false, nat_lt, Bool, Ok, refl, sym, ap, ◌∙◌, arith, append_assoc, length-append}
+use Rattle.std.proofs.Common.{◌≡◌, ℕ, ℤ, pos, ◌+◌, ◌*◌, ◌/◌, ◌%◌, ◌^◌, ◌<◌, ◌≤◌, List, [], ◌∷◌, ◌++◌, length, map}
+use Rattle.std.proofs.Common.{get_or, codes, true, false, nat_lt, Bool, Ok, refl, sym, ap, ◌∙◌, arith, append_assoc}
+use Rattle.std.proofs.Common.{length-append}
 use Rattle.std.proofs.lemmas.Bool.{ne_eqb, lt-ltb, le-ltb, le-leb, ltb-true}
 use Rattle.std.proofs.lemmas.List.{append-nil, ext_get_or}
 use Rattle.std.proofs.lemmas.Nat.{div-add-mod'}
@@ -15,10 +17,14 @@ use Rattle.cla_market.specs.declared.size.Size.{Size}
 use Rattle.cla_market.specs.Banners.{banner_in}
 use Rattle.cla_market.specs.Sizes.{size_in}
 use Rattle.cla_market.specs.Entries.{Triple, sum_at, entries_added}
-use Rattle.cla_market.specs.Texts.{AtBanner, AtSize, AtEntries, with_line, at_end, is_skipped, placed_lines, read_from, matrix_of, text_of, number_line, triple_line, nonzeros, matrix_market_text, WrittenTextsSpell}
+use Rattle.cla_market.specs.Texts.{AtBanner, AtSize, AtEntries, with_line, at_end, is_skipped, placed_lines}
+use Rattle.cla_market.specs.Texts.{read_from, matrix_of, text_of, number_line, triple_line, nonzeros}
+use Rattle.cla_market.specs.Texts.{matrix_market_text, WrittenTextsSpell}
 use Rattle.cla_market.proofs.PlainWords.{none_of, is_cr}
-use Rattle.cla_market.proofs.WrittenLaws.{written_banner, words_of_numbers, none_in_numbers, not_lf, not_cr, int_of_decimal, not_skipped, entry_is, in_63, placed_line}
-use Rattle.cla_market.proofs.SpellLaws.{general_adds, Rises, AreIn, AreGood, good, nonzeros_rise, nonzeros_in, nonzeros_sum, key}
+use Rattle.cla_market.proofs.WrittenLaws.{written_banner, words_of_numbers, none_in_numbers, not_lf, not_cr}
+use Rattle.cla_market.proofs.WrittenLaws.{int_of_decimal, not_skipped, entry_is, in_63, placed_line}
+use Rattle.cla_market.proofs.SpellLaws.{general_adds, Rises, AreIn, AreGood, good, nonzeros_rise, nonzeros_in}
+use Rattle.cla_market.proofs.SpellLaws.{nonzeros_sum, key}
 
 -- rising cells are no more than there are
 few : (bits rows cols k : ℕ) (ts : List Triple) → Rises rows k ts → AreIn bits rows cols ts → k ≤ cols * rows

@@ -1,5 +1,6 @@
 -- The lines that are written are read as what they were written for.
-use Rattle.std.proofs.Common.{pow_mono, Some, ◌≡◌, ℕ, ℤ, pos, negsuc, suc, ◌+◌, ◌-◌, ◌^◌, ◌<◌, ◌≤◌, ◌==◌, List, [], ◌∷◌, ◌++◌, length, Bool, true, false, Ok, refl, sym, subst, arith, append_assoc}
+use Rattle.std.proofs.Common.{pow_mono, Some, ◌≡◌, ℕ, ℤ, pos, negsuc, suc, ◌+◌, ◌-◌, ◌^◌, ◌<◌, ◌≤◌, ◌==◌, List, []}
+use Rattle.std.proofs.Common.{◌∷◌, ◌++◌, length, Bool, true, false, Ok, refl, sym, subst, arith, append_assoc}
 use Rattle.std.proofs.lemmas.Bool.{ne_eqb, lt-ltb}
 use Rattle.std.proofs.lemmas.Bool.Decides.{nat_tests}
 use Rattle.std.proofs.lemmas.Int.{fits_signed_from_abs}
@@ -25,7 +26,8 @@ use Rattle.cla_market.specs.declared.banner.Field.TheVariants.{Integer}
 use Rattle.cla_market.specs.declared.banner.Symmetry.TheVariants.{General}
 use Rattle.cla_market.specs.declared.size.Size.{Size}
 use Rattle.cla_market.specs.Entries.{Triple, index_of, entry_in}
-use Rattle.cla_market.proofs.PlainWords.{NonePasses, none_on, none_at, split_plain, first_word, last_word, is_cr, keeps_all}
+use Rattle.cla_market.proofs.PlainWords.{NonePasses, none_on, none_at, split_plain, first_word, last_word, is_cr}
+use Rattle.cla_market.proofs.PlainWords.{keeps_all}
 
 -- a byte of a decimal text passes no test of smaller bytes
 none_digits : (p : ℕ → Bool) → ((b : ℕ) → 45 ≤ b → p b ≡ false) → (ds : List ℕ) → AllDigits 10 ds → NonePasses p ds

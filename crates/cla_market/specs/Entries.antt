@@ -1,5 +1,6 @@
 -- Entry lines: each gives a triple, a cell and a value, and a triple is added to the matrix with its mirror image.
-use Rattle.std.specs.Prelude.{ℕ, ℤ, pos, negsuc, neg_ℤ, ◌+◌, ◌-◌, ◌+ℤ◌, List, [], ◌∷◌, map, Bool, false, ◌&&◌, ◌==◌, not, nat_lt, Option, Some, None, Result, Ok, Err, if◌then◌else◌, slice_index_or}
+use Rattle.std.specs.Prelude.{ℕ, ℤ, pos, negsuc, neg_ℤ, ◌+◌, ◌-◌, ◌+ℤ◌, List, [], ◌∷◌, map, Bool, false, ◌&&◌, ◌==◌}
+use Rattle.std.specs.Prelude.{not, nat_lt, Option, Some, None, Result, Ok, Err, if◌then◌else◌, slice_index_or}
 use Rattle.std.specs.List.{range_with_len, flat_map}
 use Rattle.cla_spec.specs.Numbers.{in_range}
 use Rattle.cla_text.specs.declared.integer.BadInt.{BadInt}

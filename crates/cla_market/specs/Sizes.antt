@@ -1,5 +1,6 @@
 -- The size line: the numbers of rows and of columns, and in a coordinate file the number of entries.
-use Rattle.std.specs.Prelude.{ℕ, ℤ, pos, negsuc, ◌+◌, ◌-◌, ◌*◌, ◌/◌, ◌^◌, List, Bool, true, ◌&&◌, ◌==◌, nat_le, nat_lt, Option, Some, None, Result, Ok, Err, if◌then◌else◌}
+use Rattle.std.specs.Prelude.{ℕ, ℤ, pos, negsuc, ◌+◌, ◌-◌, ◌*◌, ◌/◌, ◌^◌, List, Bool, true, ◌&&◌, ◌==◌, nat_le}
+use Rattle.std.specs.Prelude.{nat_lt, Option, Some, None, Result, Ok, Err, if◌then◌else◌}
 use Rattle.cla_spec.specs.Matrix.{most_cells}
 use Rattle.cla_text.specs.declared.integer.BadInt.{BadInt}
 use Rattle.cla_text.specs.Integers.{int_of}

@@ -1,5 +1,7 @@
 -- Whole Matrix Market texts: the first bad line, and the matrix that a text spells.
-use Rattle.std.specs.Prelude.{◌≡◌, ℕ, ℤ, pos, negsuc, ◌+◌, ◌≤◌, List, [], ◌∷◌, ◌++◌, length, map, codes, Bool, true, false, ◌==◌, not, nat_lt, Option, Some, None, Result, Ok, Err, if◌then◌else◌, slice_index}
+use Rattle.std.specs.Prelude.{◌≡◌, ℕ, ℤ, pos, negsuc, ◌+◌, ◌≤◌, List, [], ◌∷◌, ◌++◌, length, map, codes, Bool, true}
+use Rattle.std.specs.Prelude.{false, ◌==◌, not, nat_lt, Option, Some, None, Result, Ok, Err, if◌then◌else◌}
+use Rattle.std.specs.Prelude.{slice_index}
 use Rattle.std.specs.List.{slice_split, list_all, filter, range_with_len, flat_map}
 use Rattle.cla_spec.specs.Lines.{is_lf, without_cr}
 use Rattle.cla_spec.specs.Matrix.{Matrix, entry, row_by_row, IsWellMade}

@@ -1,5 +1,7 @@
 -- Plain words and lines.
-use Rattle.std.proofs.Common.{◌≡◌, ℕ, ℤ, pos, suc, zero, neg_ℤ, subst, ◌^◌, drop-cons, ◌+◌, ◌-◌, ◌<◌, ◌==◌, List, [], ◌∷◌, ◌++◌, length, take, drop, get_or, true, false, Bool, Ok, sym, ◌∙◌, refl, ap, arith, rules, length-append, append_assoc}
+use Rattle.std.proofs.Common.{◌≡◌, ℕ, ℤ, pos, suc, zero, neg_ℤ, subst, ◌^◌, drop-cons, ◌+◌, ◌-◌, ◌<◌, ◌==◌, List, []}
+use Rattle.std.proofs.Common.{◌∷◌, ◌++◌, length, take, drop, get_or, true, false, Bool, Ok, sym, ◌∙◌, refl, ap, arith}
+use Rattle.std.proofs.Common.{rules, length-append, append_assoc}
 use Rattle.std.proofs.lemmas.List.{take_at, take-append-drop, length-take-le}
 use Rattle.std.proofs.lemmas.Bool.{and_parts, lt-ltb}
 use Rattle.std.proofs.lemmas.Bool.Decides.{nat_tests}
@@ -10,7 +12,8 @@ use Rattle.cla_spec.specs.Lines.{is_lf, without_cr, first_line}
 use Rattle.cla_text.specs.Integers.{are_digits, fits_128, int_of}
 use Rattle.cla_text.proofs.IntWords.{int_ok, word_is, fits_from}
 use Rattle.cla_text.specs.Words.{is_blank, pieces_of}
-use Rattle.cla_market.proofs.PlainWords.{NonePasses, none_on, none_of, place_plain, first_word, last_word, is_cr, keeps_all}
+use Rattle.cla_market.proofs.PlainWords.{NonePasses, none_on, none_of, place_plain, first_word, last_word, is_cr}
+use Rattle.cla_market.proofs.PlainWords.{keeps_all}
 use Rattle.cla_market_lines.specs.Plain.{is_plain, WordThen, DigitsThen, IsEndAt, IsPlain}
 
 no_blank : (b : ℕ) → is_plain b ≡ true → is_blank b ≡ false

@@ -1,5 +1,6 @@
 -- Plain lines: words of digits, parted by one blank each, the last with a minus or without.
-use Rattle.std.specs.Prelude.{◌≡◌, ℕ, ℤ, ◌<◌, ◌^◌, List, ◌++◌, ◌∷◌, length, map, Bool, true, false, pos, neg_ℤ, ◌==◌, ◌||◌, Result, Ok}
+use Rattle.std.specs.Prelude.{◌≡◌, ℕ, ℤ, ◌<◌, ◌^◌, List, ◌++◌, ◌∷◌, length, map, Bool, true, false, pos, neg_ℤ, ◌==◌}
+use Rattle.std.specs.Prelude.{◌||◌, Result, Ok}
 use Rattle.std.specs.List.{list_all, position_or_len}
 use Rattle.std.specs.Char.{is_ascii_digit}
 use Rattle.std.specs.Str.Parse.{digits_value}

@@ -5,7 +5,8 @@ ghost use Rattle.cla_num.specs.Bits.{IsSupported};
 ghost use Rattle.cla_text.specs.Words.{words_of};
 ghost use Rattle.cla_market.specs.Results.{one_of, two_of, three_of};
 ghost use Rattle.cla_market_lines.specs.Lines.{map_ok, triple_of};
-ghost use Rattle.cla_market.specs.Entries.{coordinate_entry, pattern_entry, array_entry, diagonal_in, value_of, is_zero};
+ghost use Rattle.cla_market.specs.Entries.{coordinate_entry, pattern_entry, array_entry, diagonal_in, value_of};
+ghost use Rattle.cla_market.specs.Entries.{is_zero};
 
 use crate::number::{index_of, number_in, one_word, three_words, two_words};
 use cla_market::{LineFault, Symmetry};

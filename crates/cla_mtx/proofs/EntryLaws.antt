@@ -1,5 +1,6 @@
 -- What an entry line adds to what has been read.
-use Rattle.std.proofs.Common.{◌≡◌, ◌≢◌, ℕ, ℤ, pos, ◌<◌, ◌^◌, ◌+ℤ◌, List, [], ◌∷◌, ◌++◌, length, true, false, Bool, Ok, Err, inl, inr, refl, sym, ap, ◌∙◌, arith}
+use Rattle.std.proofs.Common.{◌≡◌, ◌≢◌, ℕ, ℤ, pos, ◌<◌, ◌^◌, ◌+ℤ◌, List, [], ◌∷◌, ◌++◌, length, true, false, Bool, Ok}
+use Rattle.std.proofs.Common.{Err, inl, inr, refl, sym, ap, ◌∙◌, arith}
 use Rattle.std.specs.List.{list_all}
 use Rattle.std.specs.Int.RustNames.{unsigned_abs}
 use Rattle.std.proofs.lemmas.Bool.{cases_eq, eq-eqb, ne_eqb, eqb-true, lt-ltb}
@@ -16,7 +17,8 @@ use Rattle.cla_market.specs.declared.fault.MtxFault.TheVariants as faults
 use Rattle.cla_market.specs.declared.size.Size.{Size}
 use Rattle.cla_market.specs.Results.{one_of}
 use Rattle.cla_market.specs.Sizes.{is_square}
-use Rattle.cla_market.specs.Entries.{Triple, entry_in, array_cell, array_entry, added_by, entries_added, value_at, sum_at}
+use Rattle.cla_market.specs.Entries.{Triple, entry_in, array_cell, array_entry, added_by, entries_added, value_at}
+use Rattle.cla_market.specs.Entries.{sum_at}
 use Rattle.cla_market.specs.Texts.{AtEntries, with_line, with_triple, is_skipped}
 use Rattle.cla_mtx.specs.Sums.{AreInRange, AddsAll, HasSums, all_fit}
 

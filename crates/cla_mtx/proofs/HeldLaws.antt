@@ -1,5 +1,7 @@
 -- Lines that are taken at once, of the bytes that are held.
-use Rattle.std.proofs.Common.{◌≡◌, ℕ, ◌+◌, ◌-◌, ◌<◌, ◌≤◌, List, [], ◌++◌, length, take, drop, true, false, Option, Some, None, Ok, refl, sym, subst, ap, ◌∙◌, arith, length-drop, length-take, append_assoc}
+use Rattle.std.proofs.Common.{◌≡◌, ℕ, ◌+◌, ◌-◌, ◌<◌, ◌≤◌, List, [], ◌++◌, length, take, drop, true, false, Option}
+use Rattle.std.proofs.Common.{Some, None, Ok, refl, sym, subst, ap, ◌∙◌, arith, length-drop, length-take}
+use Rattle.std.proofs.Common.{append_assoc}
 use Rattle.std.proofs.lemmas.List.{drop-drop, take-append-drop, drop-append-le}
 use Rattle.cla_spec.specs.Matrix.{Matrix}
 use Rattle.cla_spec.specs.Lines.{first_line}

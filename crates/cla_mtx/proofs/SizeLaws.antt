@@ -1,5 +1,6 @@
 -- What a size line says of the shape.
-use Rattle.std.proofs.Common.{◌≡◌, ℕ, ◌*◌, List, true, Option, Some, None, Result, Ok, Err, IfOk, inl, inr, nat_le, refl, sym, subst}
+use Rattle.std.proofs.Common.{◌≡◌, ℕ, ◌*◌, List, true, Option, Some, None, Result, Ok, Err, IfOk, inl, inr, nat_le}
+use Rattle.std.proofs.Common.{refl, sym, subst}
 use Rattle.std.proofs.lemmas.Bool.{cases_Bool}
 use Rattle.cla_spec.specs.Matrix.{most_cells}
 use Rattle.cla_market.specs.declared.banner.Banner.{Banner}
@@ -9,7 +10,8 @@ use Rattle.cla_market.specs.declared.banner.Symmetry.{Symmetry}
 use Rattle.cla_market.specs.declared.fault.LineFault.{LineFault}
 use Rattle.cla_market.specs.declared.size.Size.{Size}
 use Rattle.cla_market.specs.Results.{◌>>=◌, two_of, three_of}
-use Rattle.cla_market.specs.Sizes.{is_square, array_entries, shape_in, count_in, coordinate_size, array_size, size_from, size_in}
+use Rattle.cla_market.specs.Sizes.{is_square, array_entries, shape_in, count_in, coordinate_size, array_size}
+use Rattle.cla_market.specs.Sizes.{size_from, size_in}
 
 -- the shape is square where it has to be, and an array file has an entry for each of its cells
 pub record Fits (format : Format) (mirroring : Symmetry) (size : Size) : Type 0 where

@@ -1,5 +1,7 @@
 -- The text that is written for a matrix, cell by cell.
-use Rattle.std.proofs.Common.{◌≡◌, ℕ, ℤ, pos, zero, suc, ◌+◌, ◌+ℤ◌, List, [], ◌∷◌, ◌++◌, length, map, codes, Bool, true, false, not, if◌then◌else◌, inl, inr, refl, sym, ap, ◌∙◌, arith, append_assoc, length-append}
+use Rattle.std.proofs.Common.{◌≡◌, ℕ, ℤ, pos, zero, suc, ◌+◌, ◌+ℤ◌, List, [], ◌∷◌, ◌++◌, length, map, codes, Bool}
+use Rattle.std.proofs.Common.{true, false, not, if◌then◌else◌, inl, inr, refl, sym, ap, ◌∙◌, arith, append_assoc}
+use Rattle.std.proofs.Common.{length-append}
 use Rattle.std.specs.List.{range_with_len, filter, flat_map, concat}
 use Rattle.std.proofs.lemmas.Bool.{cases_Bool}
 use Rattle.std.proofs.lemmas.Grind.{flat_map-append}

@@ -3,7 +3,9 @@ use Rattle.std.specs.Prelude.{◌≡◌, ℕ, List, [], Option, Some, None, Resu
 use Rattle.cla_spec.specs.Matrix.{Matrix}
 use Rattle.cla_io.specs.Counts.{Rose}
 use Rattle.cla_market.specs.declared.fault.MtxFault.{MtxFault}
-use Rattle.cla_market.specs.declared.fault.MtxFault.TheVariants.{Banner, Unsupported, Size, Entry, Index, Diagonal, Range, TooFew, TooMany, TooLarge, TooLong, Read, Memory}
+use Rattle.cla_market.specs.declared.fault.MtxFault.TheVariants.{Banner, Unsupported, Size, Entry, Index, Diagonal}
+use Rattle.cla_market.specs.declared.fault.MtxFault.TheVariants.{Range, TooFew, TooMany, TooLarge, TooLong, Read}
+use Rattle.cla_market.specs.declared.fault.MtxFault.TheVariants.{Memory}
 use Rattle.cla_market.specs.Texts.{Spells, first_bad_line}
 
 -- a fault that a text has; the others are met while it is read, and say nothing of it

@@ -8,7 +8,8 @@ ghost use Rattle.cla_text.specs.Words.{words_of};
 ghost use Rattle.cla_market.specs.Sizes.{size_in};
 ghost use Rattle.cla_market.specs.Texts.{with_line, at_end};
 ghost use Rattle.cla_market_lines.specs.Lines.{map_ok};
-ghost use Rattle.cla_mtx.specs.Phases.{IsReady, IsReadyPhase, HasTriples, HasRead, reading_of, TakesLine, LeftDecides, GoesOn, EndsAs, IsNotRead, size_of};
+ghost use Rattle.cla_mtx.specs.Phases.{IsReady, IsReadyPhase, HasTriples, HasRead, reading_of, TakesLine};
+ghost use Rattle.cla_mtx.specs.Phases.{LeftDecides, GoesOn, EndsAs, IsNotRead, size_of};
 
 use crate::dense::take_dense;
 use crate::entries::{Entries, fault_at, take_entry};

@@ -1,5 +1,6 @@
 -- The first faulty cell of a result, by its place.
-use Rattle.std.proofs.Common.{◌≡◌, ℕ, ℤ, zero, suc, ◌+◌, ◌*◌, ◌/◌, ◌%◌, ◌^◌, ◌<◌, ◌≤◌, List, [], ◌∷◌, length, get_or, Option, Some, None, refl, ap, subst, sym, ◌∙◌, arith, inl, inr}
+use Rattle.std.proofs.Common.{◌≡◌, ℕ, ℤ, zero, suc, ◌+◌, ◌*◌, ◌/◌, ◌%◌, ◌^◌, ◌<◌, ◌≤◌, List, [], ◌∷◌, length, get_or}
+use Rattle.std.proofs.Common.{Option, Some, None, refl, ap, subst, sym, ◌∙◌, arith, inl, inr}
 use Rattle.std.proofs.Math.Nat.{div-lt_iff_lt-mul, mul-le-mul}
 use Rattle.std.proofs.lemmas.Bool.{lt-ltb, le-ltb, cases_lt}
 use Rattle.std.proofs.lemmas.Nat.{div-mul-add, mod-mul-add, div-add-mod'}
@@ -9,7 +10,8 @@ use Rattle.cla_spec.specs.Matrix.{row_by_row}
 use Rattle.cla_spec.proofs.Entries.{row_by_row-at, row_by_row-count, row_by_row-same}
 use Rattle.cla_num.specs.declared.fault.What.{What}
 use Rattle.cla_num.specs.declared.fault.What.TheVariants.{Range}
-use Rattle.cla_num.specs.Fault.{cell_fault, fault_at, or_else, first_fault_from, first_fault, fault_of, scalar_fault, exactly}
+use Rattle.cla_num.specs.Fault.{cell_fault, fault_at, or_else, first_fault_from, first_fault, fault_of, scalar_fault}
+use Rattle.cla_num.specs.Fault.{exactly}
 use Rattle.cla_num.specs.Places.{IsFirstPlace, NoneFails}
 
 pub scalar_in_range : (bits : ℕ) (v : ℤ) → InRange bits v → scalar_fault bits (Some v) ≡ None

@@ -1,5 +1,6 @@
 -- The exact values of operators on cells.
-use Rattle.std.specs.Prelude.{◌≡◌, zero, suc, ℤ, pos, negsuc, ◌+ℤ◌, ◌-ℤ◌, ◌*ℤ◌, neg_ℤ, ◌<◌, ◌⊎◌, Bool, true, false, not, Option, Some, None, int_lt, int_le, unsigned_abs}
+use Rattle.std.specs.Prelude.{◌≡◌, zero, suc, ℤ, pos, negsuc, ◌+ℤ◌, ◌-ℤ◌, ◌*ℤ◌, neg_ℤ, ◌<◌, ◌⊎◌, Bool, true, false}
+use Rattle.std.specs.Prelude.{not, Option, Some, None, int_lt, int_le, unsigned_abs}
 use Rattle.std.specs.Int.{int_div_euclid, int_rem_euclid}
 use Rattle.std.specs.Ordering.{int_eq}
 use Rattle.cla_num.specs.declared.cell_op.CellOp.{CellOp}

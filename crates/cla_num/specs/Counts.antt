@@ -14,7 +14,8 @@ pub record AreBelow (bound : ℕ) (counts : Counts) : Type 0 where
   pub mults : counts.mults < bound
   pub maps : counts.maps < bound
 
--- The counts with which calls may begin: a run, a call over whole tables or groups, and a single counted operation. A run
+-- The counts with which calls may begin: a run, a call over whole tables or groups, and a single counted operation. A
+-- run
 -- raises them by less than 2^125, and any call below it by less than 2^100, so each call meets the conditions of those
 -- that it makes.
 abbrev pub run_bound : ℕ

@@ -1,5 +1,6 @@
 -- The first fault of an operator.
-use Rattle.std.specs.Prelude.{◌≡◌, ℕ, ℤ, ◌+◌, ◌/◌, ◌%◌, List, [], ◌∷◌, Option, Some, None, Result, MatchResult, if◌then◌else◌}
+use Rattle.std.specs.Prelude.{◌≡◌, ℕ, ℤ, ◌+◌, ◌/◌, ◌%◌, List, [], ◌∷◌, Option, Some, None, Result, MatchResult}
+use Rattle.std.specs.Prelude.{if◌then◌else◌}
 use Rattle.cla_spec.specs.Numbers.{in_range}
 use Rattle.cla_spec.specs.Matrix.{row_by_row}
 use Rattle.cla_num.specs.declared.fault.What.{What}

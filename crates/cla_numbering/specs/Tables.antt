@@ -1,5 +1,6 @@
 -- Pairs of codes that are numbered through a table with a place for each pair.
-use Rattle.std.specs.Prelude.{◌≡◌, ℕ, ◌+◌, ◌*◌, ◌-◌, ◌^◌, ◌<◌, List, length, map, Bool, if◌then◌else◌, nat_eq, slice_index_or, slice_set}
+use Rattle.std.specs.Prelude.{◌≡◌, ℕ, ◌+◌, ◌*◌, ◌-◌, ◌^◌, ◌<◌, List, length, map, Bool, if◌then◌else◌, nat_eq}
+use Rattle.std.specs.Prelude.{slice_index_or, slice_set}
 use Rattle.std.specs.List.{range_with_len}
 use Rattle.cla_layout.specs.Groups.{code_of}
 use Rattle.cla_grouping.specs.Numbering.{codes_by, first_rows_by}

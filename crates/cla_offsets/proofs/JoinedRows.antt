@@ -1,5 +1,6 @@
 -- Rows whose places are joined with parts.
-use Rattle.std.proofs.Common.{◌≡◌, Bool, cond, [], ℕ, ℤ, ◌+◌, ◌-◌, ◌*◌, ◌<◌, ◌≤◌, List, length, ap, sym, ◌∙◌, arith, inl, inr}
+use Rattle.std.proofs.Common.{◌≡◌, Bool, cond, [], ℕ, ℤ, ◌+◌, ◌-◌, ◌*◌, ◌<◌, ◌≤◌, List, length, ap, sym, ◌∙◌, arith}
+use Rattle.std.proofs.Common.{inl, inr}
 use Rattle.std.proofs.lemmas.Bool.{cases_lt, cases_eq, eq-eqb}
 use Rattle.cla_layout.specs.Groups.{at, code_of}
 use Rattle.cla_layout.specs.Listed.{rows_of}
@@ -33,7 +34,8 @@ segment_joined join s codes parts old into new are more = record {
   left = λ i after. more.past i (omega (arith, after, segment_size codes s)) ∙ are.left i (omega (arith, after));
 }
 
--- the places from place `first` on are those of rows with these codes: the rows of the codes before code k are joined, and
+-- the places from place `first` on are those of rows with these codes: the rows of the codes before code k are
+-- joined, and
 -- the others are as they were
 pub record AreJoinedBelow (join : ℤ → ℤ → ℤ) (first : ℕ) (codes : List ℕ) (parts : List ℤ) (k : ℕ) (old new : List ℤ) :
     Type 0 where

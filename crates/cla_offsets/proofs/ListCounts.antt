@@ -1,5 +1,6 @@
 -- How many rows each code has, and the first of them, by lists of rows.
-use Rattle.std.proofs.Common.{◌≡◌, Bool, ℕ, zero, suc, ◌+◌, ◌-◌, ◌<◌, ◌≤◌, List, [], ◌∷◌, ◌++◌, length, cond, eqb, refl, ap}
+use Rattle.std.proofs.Common.{◌≡◌, Bool, ℕ, zero, suc, ◌+◌, ◌-◌, ◌<◌, ◌≤◌, List, [], ◌∷◌, ◌++◌, length, cond, eqb}
+use Rattle.std.proofs.Common.{refl, ap}
 use Rattle.std.proofs.Common.{subst, sym, ◌∙◌, arith, inl, inr}
 use Rattle.std.proofs.lemmas.Bool.{cases_eq, eq-eqb, ne_eqb, eqb-true}
 use Rattle.std.proofs.lemmas.Bool.Decides.{nat_tests}
@@ -43,7 +44,8 @@ no_row codes k none =
     absurd (omega (arith, none, place.0, rows_of_count codes k))))
 
 -- the first row of a list is the first that has the code
-first_listed : (codes : List ℕ) (k : ℕ) → 0 < length (rows_of codes k) → code_of (rows_of codes k) 0 ≡ first_row_of codes k
+first_listed : (codes : List ℕ) (k : ℕ) → 0 < length (rows_of codes k)
+    → code_of (rows_of codes k) 0 ≡ first_row_of codes k
 first_listed codes k some =
     let test = λ (i : ℕ). eqb (code_of codes i) k in
     let n = length codes in
@@ -143,7 +145,8 @@ pub record AreCountedTo (k : ℕ) (codes : List ℕ) (rest : ℕ) (counts first_
   pub count : (j : ℕ) → j < k → (j ≡ rest → ⊥) → code_of counts j ≡ occurrences_of codes j
   pub first_row : (j : ℕ) → j < k → (j ≡ rest → ⊥) → code_of first_rows j ≡ first_row_of codes j
 
-pub counted_none : (codes : List ℕ) (rest : ℕ) (counts first_rows : List ℕ) → AreCountedTo 0 codes rest counts first_rows
+pub counted_none : (codes : List ℕ) (rest : ℕ) (counts first_rows : List ℕ)
+    → AreCountedTo 0 codes rest counts first_rows
 counted_none codes rest counts first_rows = record {
   count = λ j there. absurd (omega (arith, there));
   first_row = λ j there. absurd (omega (arith, there));

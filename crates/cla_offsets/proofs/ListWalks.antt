@@ -1,5 +1,6 @@
 -- The lists of rows, walked segment by segment.
-use Rattle.std.proofs.Common.{◌≡◌, Bool, true, false, ℕ, ◌+◌, ◌*◌, ◌<◌, ◌≤◌, List, [], ◌∷◌, ◌++◌, length, drop, set, cond, eqb, ap}
+use Rattle.std.proofs.Common.{◌≡◌, Bool, true, false, ℕ, ◌+◌, ◌*◌, ◌<◌, ◌≤◌, List, [], ◌∷◌, ◌++◌, length, drop, set}
+use Rattle.std.proofs.Common.{cond, eqb, ap}
 use Rattle.std.proofs.Common.{refl, subst, sym, ◌∙◌, append_assoc, append-nil, arith, inl, inr}
 use Rattle.std.proofs.lemmas.Bool.{cases_eq}
 use Rattle.std.proofs.lemmas.List.{length-append, length-set, length-drop, get_or-set_same, get_or-set_other}
@@ -19,7 +20,8 @@ use Rattle.cla_offsets.proofs.ToldCodes.{lists_tell}
 
 -- lists of rows as they are chained
 pub are_chained : (codes : List ℕ) (rows tuples rest first_unlisted : ℕ) (starts places : List ℕ) →
-    AreRowLists codes rows tuples rest first_unlisted starts places → AreChained (listed codes rest) tuples starts places
+    AreRowLists codes rows tuples rest first_unlisted starts places
+    → AreChained (listed codes rest) tuples starts places
 are_chained codes rows tuples rest first_unlisted starts places lists = record {
   starts_are = lists.starts_are;
   places_are = lists.places_are;
@@ -63,7 +65,8 @@ either_none false xs none = ap (λ (ys : List ℕ). length ys) none
 none_before : (codes : List ℕ) (rest k : ℕ) → length (listed_before codes rest (segment_begin codes 0) k) ≡ 0
 none_before codes rest k =
     let first : segment_begin codes 0 ≡ 0 = omega arith in
-    ap (λ (i : ℕ). length (listed_before codes rest i k)) first ∙ either_none (eqb k rest) (rows_where (λ i. eqb (code_of codes i) k) 0) refl
+    ap (λ (i : ℕ). length (listed_before codes rest i k)) first
+    ∙ either_none (eqb k rest) (rows_where (λ i. eqb (code_of codes i) k) 0) refl
 
 pub at_start : (codes : List ℕ) (rows tuples rest first_unlisted : ℕ) (starts places cursors : List ℕ) →
     AreRowLists codes rows tuples rest first_unlisted starts places → cursors ≡ starts →
@@ -103,7 +106,8 @@ under_way_none s codes rest starts offsets cursors =
     let list = listed (segment_of codes s) rest in
     record {
       starts_are =
-          sym (ap (λ (xs : List ℕ). starts ++ xs) (lists_none (λ i. length (lists_to list i) ∷ [])) ∙ append-nil starts);
+          sym (ap (λ (xs : List ℕ). starts ++ xs) (lists_none (λ i. length (lists_to list i) ∷ []))
+          ∙ append-nil starts);
       offsets_are = sym (ap (λ (xs : List ℕ). offsets ++ xs) (lists_none list) ∙ append-nil offsets);
       same_count = refl;
       moved = λ j there. absurd (omega (arith, there));

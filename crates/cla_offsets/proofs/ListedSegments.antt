@@ -1,5 +1,6 @@
 -- The rows of a code's list that stand in a segment.
-use Rattle.std.proofs.Common.{◌≡◌, Bool, ℕ, zero, suc, ◌+◌, ◌-◌, ◌*◌, ◌<◌, ◌≤◌, List, [], ◌∷◌, ◌++◌, length, map, take, drop}
+use Rattle.std.proofs.Common.{◌≡◌, Bool, ℕ, zero, suc, ◌+◌, ◌-◌, ◌*◌, ◌<◌, ◌≤◌, List, [], ◌∷◌, ◌++◌, length, map}
+use Rattle.std.proofs.Common.{take, drop}
 use Rattle.std.proofs.Common.{cond, eqb, refl, ap, subst, sym, ◌∙◌, append_assoc, arith, inl, inr}
 use Rattle.std.specs.Prelude.{min}
 use Rattle.std.proofs.Math.Seq.{drop-append_seam, take-append_seam}
@@ -88,7 +89,8 @@ record AreSplit (test : ℕ → Bool) (a b n : ℕ) (rows : List ℕ) : Type 0 w
   pub parts : rows ≡ later test a b ++ later test b n
   pub below : (m : ℕ) → m < length rows → code_of rows m < n
   pub before : (m : ℕ) → length (rows_where test a) + m < length (rows_where test b) → code_of rows m < b
-  pub past : (m : ℕ) → length (rows_where test b) ≤ length (rows_where test a) + m → m < length rows → b ≤ code_of rows m
+  pub past : (m : ℕ) → length (rows_where test b) ≤ length (rows_where test a) + m → m < length rows
+      → b ≤ code_of rows m
 
 are_split : (test : ℕ → Bool) (a b n : ℕ) → a ≤ b → b ≤ n → (rows : List ℕ) →
     rows ≡ drop (length (rows_where test a)) (rows_where test n) → AreSplit test a b n rows

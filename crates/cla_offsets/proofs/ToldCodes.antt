@@ -8,7 +8,8 @@ use Rattle.std.proofs.lemmas.List.FromFn.{length-map-range_with_len, get_or-map-
 use Rattle.cla_layout.specs.Groups.{code_of}
 use Rattle.cla_offsets.specs.declared.lists.Lists.{Lists}
 use Rattle.cla_offsets.specs.Rows.{OffsetsOf}
-use Rattle.cla_offsets.specs.Segments.{segment_rows, segment_of, segments_of, listed, list_of, AreLists, list_kept, code_by, codes_kept}
+use Rattle.cla_offsets.specs.Segments.{segment_rows, segment_of, segments_of, listed, list_of, AreLists, list_kept}
+use Rattle.cla_offsets.specs.Segments.{code_by, codes_kept}
 use Rattle.cla_offsets.proofs.ListedRows.{list_has}
 use Rattle.cla_offsets.proofs.ListPlaces.{list_is}
 use Rattle.cla_offsets.proofs.SegmentRows.{segment_there, row_in_segment}

@@ -1,11 +1,13 @@
 -- The layout of a matrix by parted columns and their kinds is canonical, and each canonical layout is such a one.
-use Rattle.std.proofs.Common.{◌≡◌, ℕ, ◌+◌, ◌<◌, List, [], ◌∷◌, length, map, get_or, refl, sym, ap, subst, ◌∙◌, zero, suc, arith}
+use Rattle.std.proofs.Common.{◌≡◌, ℕ, ◌+◌, ◌<◌, List, [], ◌∷◌, length, map, get_or, refl, sym, ap, subst, ◌∙◌, zero}
+use Rattle.std.proofs.Common.{suc, arith}
 use Rattle.std.proofs.lemmas.List.{get_or-map, length-map}
 use Rattle.cla_spec.specs.Matrix.{Matrix, IsWellMade}
 use Rattle.cla_layout.specs.declared.kind.Kind.{Kind}
 use Rattle.cla_layout.specs.Canonical.{IsCanonical, kind_at}
 use Rattle.cla_layout.specs.Groups.{code_of}
-use Rattle.cla_layout.specs.Layouts.{LayoutPart, Layout, StandsFor, IsPartition, IsWhole, part_at, no_part, layout_with, all_columns, count_of, matrix_in}
+use Rattle.cla_layout.specs.Layouts.{LayoutPart, Layout, StandsFor, IsPartition, IsWhole, part_at, no_part}
+use Rattle.cla_layout.specs.Layouts.{layout_with, all_columns, count_of, matrix_in}
 use Rattle.cla_layout.proofs.Matrices.{one_matrix, well_made}
 use Rattle.cla_layout.proofs.Wholes.{own_column, own_column_within}
 use Rattle.cla_grouping.specs.Grouping.{GroupOf, grouping_of}

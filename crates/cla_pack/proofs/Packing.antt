@@ -1,5 +1,6 @@
 -- The table of a cut has the layout of its matrix by the rule.
-use Rattle.std.proofs.Common.{◌≡◌, ℕ, ℤ, List, length, map, Option, Result, Ok, Err, sym, ap, subst, ◌∙◌, IfOk, [], Some, None, ◌≤◌}
+use Rattle.std.proofs.Common.{◌≡◌, ℕ, ℤ, List, length, map, Option, Result, Ok, Err, sym, ap, subst, ◌∙◌, IfOk, []}
+use Rattle.std.proofs.Common.{Some, None, ◌≤◌}
 use Rattle.std.proofs.lemmas.List.{length-map}
 use Rattle.std.specs.Prelude.{OnOk}
 use Rattle.std.proofs.lemmas.Simd.{map-map}

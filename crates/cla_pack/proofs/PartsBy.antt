@@ -1,5 +1,6 @@
 -- Columns of a matrix as a group: each row's code names the row's tuple.
-use Rattle.std.proofs.Common.{◌≡◌, ℕ, ℤ, pos, ◌+◌, ◌*◌, ◌<◌, ◌≤◌, true, ◌==◌, eq-eqb, eqb-true, List, [], ◌∷◌, length, map, get_or, refl, sym, ap, subst, ◌∙◌, arith, inl, inr}
+use Rattle.std.proofs.Common.{◌≡◌, ℕ, ℤ, pos, ◌+◌, ◌*◌, ◌<◌, ◌≤◌, true, ◌==◌, eq-eqb, eqb-true, List, [], ◌∷◌, length}
+use Rattle.std.proofs.Common.{map, get_or, refl, sym, ap, subst, ◌∙◌, arith, inl, inr}
 use Rattle.std.specs.Prelude.{All}
 use Rattle.std.specs.List.{position_or_len, list_any, range_with_len}
 use Rattle.std.specs.Ordering.{int_eq}
@@ -104,7 +105,8 @@ tuples_same m (c ∷ columns) i j h =
 abbrev first_rows : Matrix → List ℕ → List ℕ
 first_rows m columns = first_rows_by (same_tuple m columns) m.rows
 
-pub distinct_count : (m : Matrix) (columns : List ℕ) → length (distinct_tuples m columns) ≡ (tuples_in m columns).distinct
+pub distinct_count : (m : Matrix) (columns : List ℕ)
+    → length (distinct_tuples m columns) ≡ (tuples_in m columns).distinct
 distinct_count m columns = length-map (first_rows m columns) (tuple_in_row m columns)
 
 -- the code of a row is the place of the first row that is the same

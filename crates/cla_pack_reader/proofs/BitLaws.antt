@@ -1,12 +1,15 @@
 -- Marks as bits of words.
-use Rattle.std.proofs.Common.{◌≡◌, ℕ, ◌+◌, ◌-◌, ◌*◌, ◌/◌, ◌%◌, ◌^◌, ◌<◌, ◌≤◌, min, max, Bool, true, false, ◌==◌, List, length, set, get_or, replicate, sym, ap, ◌∙◌, arith, inl, inr}
+use Rattle.std.proofs.Common.{◌≡◌, ℕ, ◌+◌, ◌-◌, ◌*◌, ◌/◌, ◌%◌, ◌^◌, ◌<◌, ◌≤◌, min, max, Bool, true, false, ◌==◌, List}
+use Rattle.std.proofs.Common.{length, set, get_or, replicate, sym, ap, ◌∙◌, arith, inl, inr}
 use Rattle.std.specs.Prelude.{◌||◌, ◌&&◌, nat_le, nat_lt}
 use Rattle.std.specs.Int.{bit_at}
-use Rattle.std.proofs.lemmas.Bool.{cases_eq, cases_lt, eq-eqb, ne_eqb, lt-ltb, le-ltb, le-leb, lt-leb, and_from, and_left, and_right}
+use Rattle.std.proofs.lemmas.Bool.{cases_eq, cases_lt, eq-eqb, ne_eqb, lt-ltb, le-ltb, le-leb, lt-leb, and_from}
+use Rattle.std.proofs.lemmas.Bool.{and_left, and_right}
 use Rattle.std.proofs.lemmas.Grind.{get_or-set_at}
 use Rattle.std.proofs.lemmas.List.{ext_get_or, length-set, length-replicate, get_or-set_other, get_or-replicate}
 use Rattle.std.proofs.lemmas.List.FromFn.{length-map-range_with_len, get_or-map-range_with_len}
-use Rattle.std.proofs.lemmas.Nat.Bits.{bit_at-zero, bit_at_mask_inside, bit_at_mask_below, bit_at_ones, bit_at_ones_above}
+use Rattle.std.proofs.lemmas.Nat.Bits.{bit_at-zero, bit_at_mask_inside, bit_at_mask_below, bit_at_ones}
+use Rattle.std.proofs.lemmas.Nat.Bits.{bit_at_ones_above}
 use Rattle.cla_pack_reader.specs.Bits.{mark_in, marks_in}
 
 -- the mark of a word's bit
@@ -96,7 +99,8 @@ bits_meet begin end place low high k low_is high_is before lt = elim (cases_lt k
 pub either_bit : (a b : ℕ) → a < 2 → b < 2 → (max a b == 1) ≡ (a == 1 || b == 1)
 either_bit a b la lb = elim (cases_eq a 1) [
   | inl one ↦ eq-eqb (max a b) 1 (omega (arith, one, lb)) ∙ sym (ap (λ (x : Bool). x || b == 1) (eq-eqb a 1 one))
-  | inr none ↦ ap (λ (m : ℕ). m == 1) (let b_is : max a b ≡ b = omega (arith, none, la) in b_is) ∙ sym (ap (λ (x : Bool). x || b == 1) (ne_eqb a 1 none))
+  | inr none ↦ ap (λ (m : ℕ). m == 1) (let b_is : max a b ≡ b = omega (arith, none, la) in b_is)
+      ∙ sym (ap (λ (x : Bool). x || b == 1) (ne_eqb a 1 none))
 ]
 
 -- ---- marks of items by words

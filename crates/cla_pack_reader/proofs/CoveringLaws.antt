@@ -42,7 +42,8 @@ module _ (one : OneList) (group rows d rest : ℕ) (b : Places) where
   module _ (m : Places) (lists : List (List ℕ)) (f : Follows b m)
       (took : Took b m (list_at (λ left earlier. one earlier) d []) lists) where
     pub no_cover : (at : ℕ) → (if rest == 0 then all_named rows lists else not (all_named rows lists)) ≡ false
-        → ((p : Place) → m true p → p.offset ≡ at) → Refused b (covering_at one group rows d rest) (Field group Cover at)
+        → ((p : Place) → m true p → p.offset ≡ at)
+        → Refused b (covering_at one group rows d rest) (Field group Cover at)
     unfolding lists_at cover_at
     no_cover at bad here = refused_second lists_at cover_at b m m lists (Field group Cover at) f took
         (refused_checked (if rest == 0 then all_named rows lists else not (all_named rows lists)) group Cover m at bad

@@ -5,7 +5,8 @@ use Rattle.cla_packed.specs.declared.fault.FieldName.TheVariants.{Width, Column}
 use Rattle.cla_packed.specs.declared.fault.PackFault.{PackFault}
 use Rattle.cla_packed.specs.Bodies.{Body}
 use Rattle.cla_packed.specs.Fields.{Place, Read, field_at, list_at, then_at, as_at}
-use Rattle.cla_packed.specs.Files.{PackedGroup, fits_width, fits_column, columns_of, kind_at, columns_at, body_at, group_of, group_at}
+use Rattle.cla_packed.specs.Files.{PackedGroup, fits_width, fits_column, columns_of, kind_at, columns_at, body_at}
+use Rattle.cla_packed.specs.Files.{group_of, group_at}
 use Rattle.cla_pack_reader.specs.Places.{Places, Took, Refused}
 use Rattle.cla_pack_reader.proofs.Steps.{Follows, took_view, refused_view, took_then, refused_first, refused_second}
 

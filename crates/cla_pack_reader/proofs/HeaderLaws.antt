@@ -1,5 +1,6 @@
 -- The fields before the groups, one after the other.
-use Rattle.std.proofs.Common.{◌≡◌, ℕ, ◌*◌, ◌^◌, ◌<◌, ◌≤◌, List, [], Bool, true, Ok, Err, refl, sym, ap, subst, ◌∙◌, arith, inl, inr}
+use Rattle.std.proofs.Common.{◌≡◌, ℕ, ◌*◌, ◌^◌, ◌<◌, ◌≤◌, List, [], Bool, true, Ok, Err, refl, sym, ap, subst, ◌∙◌}
+use Rattle.std.proofs.Common.{arith, inl, inr}
 use Rattle.std.specs.Prelude.{nat_le, ◌&&◌, ◌==◌}
 use Rattle.std.proofs.lemmas.Bool.{cases_lt, lt-ltb, le-ltb, le-leb, lt-leb, eq-eqb, ne_eqb}
 use Rattle.cla_packed.specs.declared.fault.FieldName.{FieldName}
@@ -7,7 +8,8 @@ use Rattle.cla_packed.specs.declared.fault.FieldName.TheVariants as names
 use Rattle.cla_packed.specs.declared.fault.PackFault.{PackFault}
 use Rattle.cla_packed.specs.declared.fault.PackFault.TheVariants.{TooLarge}
 use Rattle.cla_packed.specs.Fields.{Place, Read, Fails, field_at, refused_at, then_at, as_at, list_at, ◌>>=◌}
-use Rattle.cla_packed.specs.Files.{PackedGroup, PackedLayout, Header as Parts, magic, fits_size, file_at, group_at, layout_of}
+use Rattle.cla_packed.specs.Files.{PackedGroup, PackedLayout, Header as Parts, magic, fits_size, file_at, group_at}
+use Rattle.cla_packed.specs.Files.{layout_of}
 use Rattle.cla_pack_reader.specs.Ranges.{within}
 use Rattle.cla_pack_reader.specs.Headers.{layout_with}
 use Rattle.cla_pack_reader.specs.Places.{Places, Took, Refused}

@@ -1,5 +1,6 @@
 -- What was read stood there: its bytes and those behind it are the ones that were ahead.
-use Rattle.std.proofs.Common.{◌≡◌, ℕ, ℤ, zero, suc, ◌+◌, ◌≤◌, Bool, true, false, List, [], ◌∷◌, ◌++◌, length, take, min, Result, Ok, Err, refl, sym, ap, subst, ◌∙◌, cond, arith}
+use Rattle.std.proofs.Common.{◌≡◌, ℕ, ℤ, zero, suc, ◌+◌, ◌≤◌, Bool, true, false, List, [], ◌∷◌, ◌++◌, length, take}
+use Rattle.std.proofs.Common.{min, Result, Ok, Err, refl, sym, ap, subst, ◌∙◌, cond, arith}
 use Rattle.std.specs.Prelude.{nat_lt, not, ◌==◌, if◌then◌else◌}
 use Rattle.cla_packed.specs.declared.fault.FieldName.TheVariants.{Cover}
 use Rattle.std.proofs.lemmas.Bool.{ltb-false}
@@ -10,7 +11,8 @@ use Rattle.cla_layout.specs.declared.kind.Kind.TheVariants as kinds
 use Rattle.cla_packed.specs.declared.fault.FieldName.{FieldName}
 use Rattle.cla_packed.specs.declared.fault.PackFault.{PackFault}
 use Rattle.cla_packed.specs.declared.fault.PackFault.TheVariants.{Field, TooLong}
-use Rattle.cla_packed.specs.Fields.{Place, Read, after, number_at, tested, field_at, refused_at, checked_at, then_at, list_at, as_at, ◌>>=◌}
+use Rattle.cla_packed.specs.Fields.{Place, Read, after, number_at, tested, field_at, refused_at, checked_at, then_at}
+use Rattle.cla_packed.specs.Fields.{list_at, as_at, ◌>>=◌}
 use Rattle.cla_packed.specs.Values.{value_at, tuples_at}
 use Rattle.cla_packed.specs.Codes.{code_bytes, codes_at}
 use Rattle.cla_packed.specs.Offsets.{offsets_at}

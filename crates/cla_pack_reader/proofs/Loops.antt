@@ -1,5 +1,6 @@
 -- The steps of a loop that reads a list: what is left decides.
-use Rattle.std.proofs.Common.{◌≡◌, ℕ, suc, ◌+◌, ◌-◌, ◌<◌, ◌≤◌, Bool, true, false, List, [], ◌∷◌, ◌++◌, Result, Ok, Err, refl, sym, ◌∙◌, arith}
+use Rattle.std.proofs.Common.{◌≡◌, ℕ, suc, ◌+◌, ◌-◌, ◌<◌, ◌≤◌, Bool, true, false, List, [], ◌∷◌, ◌++◌, Result, Ok}
+use Rattle.std.proofs.Common.{Err, refl, sym, ◌∙◌, arith}
 use Rattle.cla_packed.specs.declared.fault.FieldName.{FieldName}
 use Rattle.cla_packed.specs.declared.fault.PackFault.{PackFault}
 use Rattle.cla_packed.specs.declared.fault.PackFault.TheVariants.{Field, Trailing, TooLarge, TooLong, Read, Memory}

@@ -1,5 +1,6 @@
 -- The number that an input gives is that of the next field.
-use Rattle.std.proofs.Common.{◌≡◌, ℕ, zero, suc, ◌+◌, ◌^◌, ◌<◌, ◌≤◌, ◌/◌, min, List, ◌++◌, length, Option, Some, None, IsSome, true, false, Ok, Err, refl, sym, ap, subst, ◌∙◌, arith}
+use Rattle.std.proofs.Common.{◌≡◌, ℕ, zero, suc, ◌+◌, ◌^◌, ◌<◌, ◌≤◌, ◌/◌, min, List, ◌++◌, length, Option, Some, None}
+use Rattle.std.proofs.Common.{IsSome, true, false, Ok, Err, refl, sym, ap, subst, ◌∙◌, arith}
 use Rattle.std.proofs.lemmas.Bool.{lt-ltb, le-ltb}
 use native.Mathlib.Numerals.{unary_clauses}
 use Rattle.cla_spec.specs.Bytes.{bytes_of, past}

@@ -1,5 +1,6 @@
 -- The code of the rest, by the first rows of tuples.
-use Rattle.std.proofs.Common.{◌≡◌, ℕ, ◌+◌, ◌<◌, ◌≤◌, max, eqb, List, [], length, get_or, sym, ap, subst, ◌∙◌, arith, inl, inr}
+use Rattle.std.proofs.Common.{◌≡◌, ℕ, ◌+◌, ◌<◌, ◌≤◌, max, eqb, List, [], length, get_or, sym, ap, subst, ◌∙◌, arith}
+use Rattle.std.proofs.Common.{inl, inr}
 use Rattle.std.specs.List.{Contains}
 use Rattle.std.proofs.lemmas.Bool.{cases_lt, eq-eqb, eqb-true, false≢true}
 use Rattle.std.proofs.lemmas.List.{get_or_default}
@@ -146,7 +147,8 @@ module _ (rows d first : ℕ) (owners : List ℕ) (runs : List KeyedRun) (h : Ha
         λ k below. elim (cases_lt k r) [
           | inl before ↦ inv.1 k before
           | inr later ↦ elim (cases_lt k run.key) [
-            | inl sooner ↦ omega (arith, numbered_apart owners d h.owners_are.numbered k run.key sooner t.0, t.1, begins)
+            | inl sooner ↦ omega
+                (arith, numbered_apart owners d h.owners_are.numbered k run.key sooner t.0, t.1, begins)
             | inr here ↦
                 let same : k ≡ run.key = omega (arith, below, later, here) in
                 omega (arith, ap (first_row_of owners) same, t.1, begins)
@@ -156,7 +158,8 @@ module _ (rows d first : ℕ) (owners : List ℕ) (runs : List KeyedRun) (h : Ha
           | inl before ↦ omega (arith, inv.2 n x before early)
           | inr last ↦
               let same : n ≡ i = omega (arith, below, last) in
-              let key = ap (λ (y : KeyedRun). y.key) (ap (λ (m : ℕ). get_or runs m x) same ∙ get_or_default runs i x e lt)
+              let key =
+              ap (λ (y : KeyedRun). y.key) (ap (λ (m : ℕ). get_or runs m x) same ∙ get_or_default runs i x e lt)
               in omega (arith, key)
         ],
       )

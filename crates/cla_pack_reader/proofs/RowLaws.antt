@@ -1,7 +1,10 @@
 -- One offset, read or refused, and a segment.
-use Rattle.std.proofs.Common.{◌≡◌, ℕ, ◌+◌, ◌*◌, ◌<◌, ◌≤◌, Bool, true, false, List, [], ◌++◌, length, Result, Ok, Err, sym, ap, subst, ◌∙◌, arith, inl, inr}
+use Rattle.std.proofs.Common.{◌≡◌, ℕ, ◌+◌, ◌*◌, ◌<◌, ◌≤◌, Bool, true, false, List, [], ◌++◌, length, Result, Ok, Err}
+use Rattle.std.proofs.Common.{sym, ap, subst, ◌∙◌, arith, inl, inr}
 use Rattle.std.specs.Prelude.{nat_lt, nat_le, ◌&&◌, ◌||◌, not}
-use Rattle.std.proofs.lemmas.Bool.{cases_lt, lt-ltb, le-ltb, ltb-true, ltb-false, le-leb, and_from, and_left, and_right, and_parts, or_left, or_right, or_cases, or_parts, or_from, not-true, not-false}
+use Rattle.std.proofs.lemmas.Bool.{cases_lt, lt-ltb, le-ltb, ltb-true, ltb-false, le-leb, and_from, and_left}
+use Rattle.std.proofs.lemmas.Bool.{and_right, and_parts, or_left, or_right, or_cases, or_parts, or_from, not-true}
+use Rattle.std.proofs.lemmas.Bool.{not-false}
 use Rattle.cla_packed.specs.declared.fault.FieldName.TheVariants.{Offset, Count}
 use Rattle.cla_packed.specs.declared.fault.PackFault.{PackFault}
 use Rattle.cla_packed.specs.declared.fault.PackFault.TheVariants.{Field}
@@ -10,7 +13,8 @@ use Rattle.cla_packed.specs.Offsets.{fits_row, joined, segment_rows, fits_count,
 use Rattle.cla_pack_reader.specs.declared.walk.Walk.{Walk}
 use Rattle.cla_pack_reader.specs.Places.{Places, Took, Refused}
 use Rattle.cla_pack_reader.specs.Segments.{GivesRows}
-use Rattle.cla_pack_reader.proofs.Steps.{Follows, took_field, refused_field, unfit_field, took_view, refused_view, took_then, refused_first, refused_second}
+use Rattle.cla_pack_reader.proofs.Steps.{Follows, took_field, refused_field, unfit_field, took_view, refused_view}
+use Rattle.cla_pack_reader.proofs.Steps.{took_then, refused_first, refused_second}
 
 module _ (size rows group : ℕ) (earlier before : List (List ℕ)) (so_far : List ℕ) (b a : Places) where
   offset_at : Place → Read ℕ

@@ -1,8 +1,10 @@
 -- A run that was read is one more run of its tuple.
-use Rattle.std.proofs.Common.{◌≡◌, ℕ, ◌+◌, ◌<◌, ◌≤◌, Bool, true, false, cond, List, [], ◌∷◌, ◌++◌, length, get_or, refl, sym, ap, subst, ◌∙◌, append_assoc, append-nil, arith, inl, inr}
+use Rattle.std.proofs.Common.{◌≡◌, ℕ, ◌+◌, ◌<◌, ◌≤◌, Bool, true, false, cond, List, [], ◌∷◌, ◌++◌, length, get_or}
+use Rattle.std.proofs.Common.{refl, sym, ap, subst, ◌∙◌, append_assoc, append-nil, arith, inl, inr}
 use Rattle.std.specs.Prelude.{nat_lt, nat_le, ◌&&◌, ◌||◌, ◌==◌, not}
 use Rattle.std.specs.List.{range_with_len}
-use Rattle.std.proofs.lemmas.Bool.{cases_Bool, cases_lt, lt-ltb, le-ltb, ltb-true, eq-eqb, ne_eqb, and_left, and_right, not-true, not_from_false, false≢true, false_from_ne_true}
+use Rattle.std.proofs.lemmas.Bool.{cases_Bool, cases_lt, lt-ltb, le-ltb, ltb-true, eq-eqb, ne_eqb, and_left}
+use Rattle.std.proofs.lemmas.Bool.{and_right, not-true, not_from_false, false≢true, false_from_ne_true}
 use Rattle.std.proofs.lemmas.List.{length-append}
 use Rattle.cla_packed.specs.declared.fault.FieldName.TheVariants.{Gap, Length, Runs}
 use Rattle.cla_packed.specs.declared.fault.PackFault.{PackFault}
@@ -19,7 +21,8 @@ use Rattle.cla_pack_reader.specs.Places.{Places, Took, Refused}
 use Rattle.cla_pack_reader.specs.Ranges.{within}
 use Rattle.cla_pack_reader.specs.Walks.{IsState, past}
 use Rattle.cla_pack_reader.proofs.KeptRuns.{run_kept}
-use Rattle.cla_pack_reader.proofs.Steps.{Follows, took_field, refused_field, unfit_field, took_view, refused_view, took_then, refused_first, refused_second}
+use Rattle.cla_pack_reader.proofs.Steps.{Follows, took_field, refused_field, unfit_field, took_view, refused_view}
+use Rattle.cla_pack_reader.proofs.Steps.{took_then, refused_first, refused_second}
 use Rattle.cla_pack_reader.proofs.WalkLaws.{in_range, named_from, state_pushed}
 
 -- ---- rows that no earlier tuple names
@@ -77,7 +80,8 @@ module _ (t : ℕ) (earlier : List (List ℕ)) (so_far : List Run) (marks : List
       (λ i lt. put i lt ∙ ap (λ (e : ℕ). get_or marks i false || in_range run.begin e i) next.end) in
       let state = subst (λ (e : ℕ). IsState earlier (rows ++ range_with_len run.begin read.1) marks'
       (past walk run.begin e) floor) (sym next.end) pushed in
-      let state' = subst (λ (l : List ℕ). IsState earlier l marks' (past walk run.begin run.end) floor) (sym same) state in
+      let state' =
+      subst (λ (l : List ℕ). IsState earlier l marks' (past walk run.begin run.end) floor) (sym same) state in
       let started : nat_lt 0 (length (rows_of_runs 0 (so_far ++ read ∷ []))) ≡ true = sym state'.started in
       record {
         state = state';
@@ -102,7 +106,8 @@ module _ (t : ℕ) (earlier : List (List ℕ)) (so_far : List Run) (marks : List
       let new = not-true (named earlier run.begin) (all_range (λ i. not (named earlier i)) run.begin read.1 run.begin
       next.apart (omega arith) (omega (arith, some))) in
       subst (λ (l : List ℕ). AreRunsOf rows (earlier ++ l ∷ []) (kept ++ run ∷ [])) (sym same)
-      (run_kept rows earlier kept list walk.next s.state.below run read.1 (next.key ∙ is) next.end some within behind gap
+      (run_kept rows earlier kept list walk.next s.state.below run read.1
+      (next.key ∙ is) next.end some within behind gap
       new r)
 
 -- ---- a run's fields

@@ -1,5 +1,6 @@
 -- What was read, step by step.
-use Rattle.std.proofs.Common.{◌≡◌, ℕ, ◌+◌, ◌-◌, ◌<◌, ◌≤◌, Bool, true, false, List, [], ◌∷◌, ◌++◌, IsSome, Ok, Err, refl, sym, ap, subst, ◌∙◌, arith}
+use Rattle.std.proofs.Common.{◌≡◌, ℕ, ◌+◌, ◌-◌, ◌<◌, ◌≤◌, Bool, true, false, List, [], ◌∷◌, ◌++◌, IsSome, Ok, Err}
+use Rattle.std.proofs.Common.{refl, sym, ap, subst, ◌∙◌, arith}
 use Rattle.cla_io.specs.State.{State}
 use Rattle.cla_io.specs.Lines.{Progress}
 use Rattle.cla_packed.specs.declared.fault.FieldName.{FieldName}
@@ -7,7 +8,8 @@ use Rattle.cla_packed.specs.declared.fault.PackFault.{PackFault}
 use Rattle.cla_packed.specs.declared.fault.PackFault.TheVariants.{Field}
 use Rattle.cla_packed.specs.Fields.{Place, Read, Fails, number_at, field_at, then_at, list_at, as_at}
 use Rattle.cla_pack_reader.specs.Places.{Places, places_of, place_of, Took, Refused}
-use Rattle.cla_pack_reader.proofs.Loops.{goes_on, ends, is_done, field_reads, field_fails, field_ends, view_reads, view_ends, then_reads, then_stops, then_ends}
+use Rattle.cla_pack_reader.proofs.Loops.{goes_on, ends, is_done, field_reads, field_fails, field_ends, view_reads}
+use Rattle.cla_pack_reader.proofs.Loops.{view_ends, then_reads, then_stops, then_ends}
 
 -- the files tell one place before, and one behind
 pub record Follows (before after : Places) : Type 0 where

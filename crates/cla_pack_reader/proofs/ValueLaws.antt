@@ -1,5 +1,6 @@
 -- A value of some bytes, and the values of a tuple.
-use Rattle.std.proofs.Common.{◌≡◌, ℕ, ℤ, ◌+◌, ◌-◌, ◌<◌, ◌≤◌, List, [], ◌∷◌, ◌++◌, length, map, Bool, true, false, Result, Ok, Err, ap, subst, ◌∙◌, arith, append_assoc}
+use Rattle.std.proofs.Common.{◌≡◌, ℕ, ℤ, ◌+◌, ◌-◌, ◌<◌, ◌≤◌, List, [], ◌∷◌, ◌++◌, length, map, Bool, true, false}
+use Rattle.std.proofs.Common.{Result, Ok, Err, ap, subst, ◌∙◌, arith, append_assoc}
 use Rattle.std.specs.Prelude.{nat_lt, ◌||◌, OnOk}
 use Rattle.std.proofs.lemmas.Bool.{lt-ltb, and_from, and_left, and_right, or_left}
 use Rattle.std.proofs.lemmas.List.{length-append}

@@ -1,9 +1,13 @@
 -- What marks say of the rows that were read.
-use Rattle.std.proofs.Common.{◌≡◌, ℕ, zero, suc, ◌+◌, ◌<◌, ◌≤◌, Bool, true, false, cond, eqb, List, [], ◌∷◌, ◌++◌, length, get_or, set, replicate, map, refl, sym, ap, ◌∙◌, arith, inl, inr}
+use Rattle.std.proofs.Common.{◌≡◌, ℕ, zero, suc, ◌+◌, ◌<◌, ◌≤◌, Bool, true, false, cond, eqb, List, [], ◌∷◌, ◌++◌}
+use Rattle.std.proofs.Common.{length, get_or, set, replicate, map, refl, sym, ap, ◌∙◌, arith, inl, inr}
 use Rattle.std.specs.Prelude.{nat_lt, nat_le, ◌||◌, ◌&&◌, not}
 use Rattle.std.specs.List.{range_with_len}
-use Rattle.std.proofs.lemmas.Bool.{cases_order, cases_Bool, cases_lt, lt-ltb, le-ltb, ltb-true, le-leb, lt-leb, leb-true, eq-eqb, ne_eqb, and_left, and_right, and_from, and_parts, or_left, or_right, or_cases, not_from_true, not_from_false, false≢true}
-use Rattle.std.proofs.lemmas.List.{map-append, length-append, length-replicate, ext_get_or, get_or-set_same, get_or-set_other, get_or-replicate}
+use Rattle.std.proofs.lemmas.Bool.{cases_order, cases_Bool, cases_lt, lt-ltb, le-ltb, ltb-true, le-leb, lt-leb}
+use Rattle.std.proofs.lemmas.Bool.{leb-true, eq-eqb, ne_eqb, and_left, and_right, and_from, and_parts, or_left}
+use Rattle.std.proofs.lemmas.Bool.{or_right, or_cases, not_from_true, not_from_false, false≢true}
+use Rattle.std.proofs.lemmas.List.{map-append, length-append, length-replicate, ext_get_or, get_or-set_same}
+use Rattle.std.proofs.lemmas.List.{get_or-set_other, get_or-replicate}
 use Rattle.std.proofs.lemmas.List.Folds.{list_any-append}
 use Rattle.std.proofs.lemmas.List.FromFn.{length-range_with_len, length-map-range_with_len}
 use Rattle.cla_packed.specs.Codes.{has}

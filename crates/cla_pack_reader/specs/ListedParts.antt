@@ -1,5 +1,6 @@
 -- The parts of a group that lists its tuples with their rows: its tuples, and the lists behind them.
-use Rattle.std.specs.Prelude.{◌≡◌, ℕ, ℤ, ◌+◌, ◌*◌, ◌<◌, ◌≤◌, ◌^◌, List, [], length, map, Bool, false, ◌==◌, not, if◌then◌else◌, Option, is_some, slice_index_or}
+use Rattle.std.specs.Prelude.{◌≡◌, ℕ, ℤ, ◌+◌, ◌*◌, ◌<◌, ◌≤◌, ◌^◌, List, [], length, map, Bool, false, ◌==◌, not}
+use Rattle.std.specs.Prelude.{if◌then◌else◌, Option, is_some, slice_index_or}
 use Rattle.cla_layout.specs.Groups.{first_row_of, IsGroup}
 use Rattle.cla_group.specs.Dictionaries.{DictionaryOf}
 use Rattle.cla_layout.specs.Listed.{is_zero, rows_of, rest_of, numbered_rest}

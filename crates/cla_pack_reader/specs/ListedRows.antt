@@ -1,5 +1,6 @@
 -- The rows of tuples as they are kept: lists one behind the other, or runs, and marks.
-use Rattle.std.specs.Prelude.{◌≡◌, ℕ, ◌+◌, ◌<◌, ◌≤◌, List, [], length, map, Bool, true, false, Result, Ok, Err, slice_index_or, eqb}
+use Rattle.std.specs.Prelude.{◌≡◌, ℕ, ◌+◌, ◌<◌, ◌≤◌, List, [], length, map, Bool, true, false, Result, Ok, Err}
+use Rattle.std.specs.Prelude.{slice_index_or, eqb}
 use Rattle.std.specs.List.{Contains, IsDistinct, range_with_len}
 use Rattle.cla_packed.specs.declared.fault.PackFault.{PackFault}
 use Rattle.cla_packed.specs.Codes.{has}

@@ -1,6 +1,7 @@
 //! Marks, one bit each.
 
-ghost use Rattle.std.specs.Prelude.{◌≡◌, ◌≢◌, ◌+◌, ◌*◌, ◌/◌, ℕ, ◌<◌, ◌==◌, ◌≤◌, ◌||◌, ◌&&◌, nat_le, nat_lt, length, replicate, slice_index_or, slice_set, true, false, IfOk};
+ghost use Rattle.std.specs.Prelude.{◌≡◌, ◌≢◌, ◌+◌, ◌*◌, ◌/◌, ℕ, ◌<◌, ◌==◌, ◌≤◌, ◌||◌, ◌&&◌, nat_le, nat_lt, length};
+ghost use Rattle.std.specs.Prelude.{replicate, slice_index_or, slice_set, true, false, IfOk};
 ghost use Rattle.std.specs.Int.{bit_at};
 ghost use Rattle.cla_pack_reader.specs.Bits.{mark_in};
 

@@ -6,7 +6,8 @@ ghost use Rattle.cla_packed.specs.declared.fault.FieldName.TheVariants.{Length};
 ghost use Rattle.cla_packed.specs.Fields.{field_at, list_at};
 ghost use Rattle.cla_packed.specs.Runs.{Run, run_at, runs_at};
 ghost use Rattle.cla_pack_reader.specs.Places.{places_of, HasReadCause};
-ghost use Rattle.cla_pack_reader.specs.Runs.{AreNamedFrom, IsRunState, AreRunsSoFar, fits_rows, GivesLength, GivesRun, GivesRuns, GivesRunList};
+ghost use Rattle.cla_pack_reader.specs.Runs.{AreNamedFrom, IsRunState, AreRunsSoFar, fits_rows, GivesLength};
+ghost use Rattle.cla_pack_reader.specs.Runs.{GivesRun, GivesRuns, GivesRunList};
 ghost use Rattle.cla_pack_reader.specs.Walks.{at_start};
 
 use crate::bits::Marks;

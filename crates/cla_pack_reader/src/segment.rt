@@ -1,6 +1,7 @@
 //! The rows of a segment.
 
-ghost use Rattle.std.specs.Prelude.{◌≡◌, ℕ, ◌+◌, ◌*◌, ◌^◌, ◌<◌, ◌≤◌, ◌++◌, ◌&&◌, ◌||◌, not, nat_lt, List, [], length, IfOk};
+ghost use Rattle.std.specs.Prelude.{◌≡◌, ℕ, ◌+◌, ◌*◌, ◌^◌, ◌<◌, ◌≤◌, ◌++◌, ◌&&◌, ◌||◌, not, nat_lt, List, [], length};
+ghost use Rattle.std.specs.Prelude.{IfOk};
 ghost use Rattle.cla_packed.specs.Fields.{list_at};
 ghost use Rattle.cla_packed.specs.Offsets.{row_at, segment_at, joined, segment_rows};
 ghost use Rattle.cla_pack_reader.specs.Places.{places_of, HasReadCause};

@@ -1,6 +1,7 @@
 //! The tuples of a group, each of which differs from those before it.
 
-ghost use Rattle.std.specs.Prelude.{◌≡◌, ℤ, pos, ◌+◌, ◌*◌, ◌≤◌, ◌++◌, ◌∷◌, [], ◌&&◌, not, true, length, map, IfOk, OnOk};
+ghost use Rattle.std.specs.Prelude.{◌≡◌, ℤ, pos, ◌+◌, ◌*◌, ◌≤◌, ◌++◌, ◌∷◌, [], ◌&&◌, not, true, length, map, IfOk};
+ghost use Rattle.std.specs.Prelude.{OnOk};
 ghost use Rattle.std.specs.Ordering.{int_eq};
 ghost use Rattle.cla_num.specs.Bits.{IsSupported};
 ghost use Rattle.cla_io.specs.InputFrame.{ReadsOn};

@@ -19,7 +19,8 @@ abbrev pub wanting : Pending → Pending
 wanting (Ok held) = Err Memory
 wanting (Err stop) = Err stop
 
--- what became of bytes that were put behind those held back: the sink has the first of them all, and the others are held
+-- what became of bytes that were put behind those held back: the sink has the first of them all, and the others are
+-- held
 -- back; or it has a front of them, and nothing more goes to it
 abbrev pub Goes : List ℕ → Pending → Option (List ℕ) → Pending → Option (List ℕ) → Type 0
 Goes bytes (Ok held) old (Ok held') new = IsParted (held ++ bytes) old new held'

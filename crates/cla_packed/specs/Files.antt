@@ -1,5 +1,6 @@
 -- Packed files, version 1.
-use Rattle.std.specs.Prelude.{◌≡◌, ℕ, ℤ, zero, suc, ◌+◌, ◌*◌, ◌^◌, List, [], ◌++◌, length, codes, map, Bool, true, ◌==◌, ◌&&◌, ◌||◌, not, nat_lt, nat_le, if◌then◌else◌}
+use Rattle.std.specs.Prelude.{◌≡◌, ℕ, ℤ, zero, suc, ◌+◌, ◌*◌, ◌^◌, List, [], ◌++◌, length, codes, map, Bool, true}
+use Rattle.std.specs.Prelude.{◌==◌, ◌&&◌, ◌||◌, not, nat_lt, nat_le, if◌then◌else◌}
 use Rattle.std.specs.List.{flat_map, list_all, range_with_len, AllByRecursion}
 use Rattle.cla_spec.specs.Bytes.{bytes_of, number_of}
 use Rattle.cla_packed.specs.declared.fault.FieldName.TheVariants as names
@@ -35,7 +36,8 @@ abbrev pub fits_width : ℕ → List ℕ → ℕ → ℕ → Bool
 fits_width cols taken left w = nat_le 1 w && nat_le (w + length taken + left) cols
     && (nat_lt 0 left || w + length taken == cols)
 
--- below the columns and in no group before; the first is the least such column, and each later one is above the one before
+-- below the columns and in no group before; the first is the least such column, and each later one is above the one
+-- before
 abbrev pub fits_column : ℕ → List ℕ → List ℕ → ℕ → Bool
 fits_column cols taken so_far c = nat_lt c cols && not (has taken c)
     && (if length so_far == 0 then list_all (has taken) (range_with_len 0 c) else nat_le (next_from 0 so_far) c)

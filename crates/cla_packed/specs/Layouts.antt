@@ -43,7 +43,8 @@ abbrev pub fault_in : {A : Type 0} → Result A PackFault → Option PackFault
 fault_in (Ok x) = None
 fault_in (Err fault) = Some fault
 
--- the first field, in the order of the file, that is cut short or breaks its condition, or what else is wrong at its place
+-- the first field, in the order of the file, that is cut short or breaks its condition, or what else is wrong at its
+-- place
 -- in that order; values have k bytes, and are in range of so many bits
 abbrev pub first_bad_field : ℕ → ℕ → ℕ → List ℕ → Option PackFault
 first_bad_field k bits limit bytes = fault_in (whole_at (file_at k bits) limit bytes)

@@ -1,5 +1,6 @@
 -- Offset lists: the rows of a tuple, segment by segment.
-use Rattle.std.specs.Prelude.{ℕ, zero, suc, ◌+◌, ◌-◌, ◌*◌, ◌/◌, ◌%◌, List, [], ◌∷◌, ◌++◌, length, take, drop, min, Bool, ◌&&◌, ◌||◌, not, nat_lt, nat_le}
+use Rattle.std.specs.Prelude.{ℕ, zero, suc, ◌+◌, ◌-◌, ◌*◌, ◌/◌, ◌%◌, List, [], ◌∷◌, ◌++◌, length, take, drop, min}
+use Rattle.std.specs.Prelude.{Bool, ◌&&◌, ◌||◌, not, nat_lt, nat_le}
 use Rattle.std.specs.List.{flat_map, prefix_len}
 use Rattle.cla_spec.specs.Bytes.{bytes_of}
 use Rattle.cla_packed.specs.declared.fault.FieldName.TheVariants.{Count, Offset}

@@ -1,5 +1,6 @@
 -- The rest: the tuple whose rows no list names.
-use Rattle.std.specs.Prelude.{ℕ, ℤ, pos, ◌+◌, ◌-◌, ◌<◌, ◌≤◌, List, [], ◌∷◌, ◌++◌, length, map, take, drop, replicate, Option, None, Some, Bool, ◌==◌, ◌&&◌, not, nat_lt, nat_le, if◌then◌else◌}
+use Rattle.std.specs.Prelude.{ℕ, ℤ, pos, ◌+◌, ◌-◌, ◌<◌, ◌≤◌, List, [], ◌∷◌, ◌++◌, length, map, take, drop, replicate}
+use Rattle.std.specs.Prelude.{Option, None, Some, Bool, ◌==◌, ◌&&◌, not, nat_lt, nat_le, if◌then◌else◌}
 use Rattle.std.specs.List.{list_all, flat_map, position_or_len, range_with_len}
 use Rattle.cla_spec.specs.Bytes.{bytes_of}
 use Rattle.cla_packed.specs.declared.fault.FieldName.TheVariants.{Tuples, Rest, Cover}

@@ -1,5 +1,6 @@
 -- Runs of rows, each as the gap behind the run before and its length.
-use Rattle.std.specs.Prelude.{ℕ, suc, ◌+◌, ◌-◌, List, [], ◌∷◌, ◌++◌, length, Bool, ◌&&◌, ◌||◌, ◌==◌, not, nat_lt, nat_le, if◌then◌else◌}
+use Rattle.std.specs.Prelude.{ℕ, suc, ◌+◌, ◌-◌, List, [], ◌∷◌, ◌++◌, length, Bool, ◌&&◌, ◌||◌, ◌==◌, not, nat_lt}
+use Rattle.std.specs.Prelude.{nat_le, if◌then◌else◌}
 use Rattle.std.specs.List.{flat_map, list_all, range_with_len}
 use Rattle.cla_spec.specs.Bytes.{bytes_of}
 use Rattle.cla_packed.specs.declared.fault.FieldName.TheVariants.{Runs, Gap, Length}
@@ -29,7 +30,8 @@ abbrev pub runs_of_rows : ℕ → List ℕ → List Run
 runs_of_rows a [] = []
 runs_of_rows a (i ∷ more) = one_more_row (i - a) (runs_of_rows (i + 1) more)
 
--- at least 1 but in the first run; the run's first row is below the rows, and that of the first run is above the first row
+-- at least 1 but in the first run; the run's first row is below the rows, and that of the first run is above the
+-- first row
 -- of the tuple before
 abbrev pub fits_gap : ℕ → List (List ℕ) → List Run → ℕ → Bool
 fits_gap rows earlier so_far gap = (nat_lt 0 gap || length so_far == 0) && nat_lt (end_of 0 so_far + gap) rows

@@ -1,5 +1,6 @@
 -- Files of version 1 are the canonical layouts.
-use Rattle.std.proofs.Common.{◌≡◌, ℕ, ℤ, pos, negsuc, zero, suc, ◌+◌, ◌*◌, ◌^◌, ◌<◌, ◌≤◌, true, eqb, List, [], ◌∷◌, ◌++◌, length, get_or, map, refl, sym, ap, subst, ◌∙◌, arith, inl, inr}
+use Rattle.std.proofs.Common.{◌≡◌, ℕ, ℤ, pos, negsuc, zero, suc, ◌+◌, ◌*◌, ◌^◌, ◌<◌, ◌≤◌, true, eqb, List, [], ◌∷◌}
+use Rattle.std.proofs.Common.{◌++◌, length, get_or, map, refl, sym, ap, subst, ◌∙◌, arith, inl, inr}
 use Rattle.std.specs.Prelude.{nat_lt, nat_le}
 use Rattle.std.specs.List.{range_with_len, AllByRecursion}
 use Rattle.std.proofs.lemmas.Bool.{cases_lt, eq-eqb, ne_eqb, lt-ltb, le-leb, ltb-true, leb-true, and_parts, and_from}
@@ -19,7 +20,8 @@ use Rattle.cla_packed.specs.Codes.{has}
 use Rattle.cla_packed.specs.Lists.{RisingFrom, first_of}
 use Rattle.cla_packed.specs.Offsets.{joined}
 use Rattle.cla_packed.specs.Bodies.{Body, IsBody}
-use Rattle.cla_packed.specs.Files.{PackedGroup, PackedLayout, IsBodyOf, columns_of, AreColumns, IsGroupHere, IsFile, fits_size}
+use Rattle.cla_packed.specs.Files.{PackedGroup, PackedLayout, IsBodyOf, columns_of, AreColumns, IsGroupHere, IsFile}
+use Rattle.cla_packed.specs.Files.{fits_size}
 use Rattle.cla_spec.specs.Numbers.{InRange}
 use Rattle.cla_layout.specs.Groups.{value_of, IsGroup}
 use Rattle.cla_layout.specs.Layouts.{LayoutPart, part_at, all_columns, IsPart}
@@ -166,7 +168,8 @@ record IsPartHere (bits rows width : ℕ) (kind : Kind) (columns : List ℕ) (bo
   numbered : AreNumbered body.codes (length body.tuples)
   kind_is : HasKind kind (record { columns = columns; codes = body.codes; tuples = body.tuples })
 
-group_from : (bits rows width : ℕ) (body : Body) → 1 ≤ rows → 1 ≤ width → rows * width ≤ 2 ^ 26 → length body.codes ≡ rows
+group_from : (bits rows width : ℕ) (body : Body) → 1 ≤ rows → 1 ≤ width → rows * width ≤ 2 ^ 26
+    → length body.codes ≡ rows
     → AreCodesOf (length body.tuples) body.codes → AllByRecursion (IsTuple 8 bits width) body.tuples
     → IsGroup bits width body.codes body.tuples
 group_from bits rows width body row column few count codes tuples =

@@ -1,8 +1,11 @@
 -- The columns of groups that pass their tests are a partition, in the order of their first columns.
-use Rattle.std.proofs.Common.{◌≡◌, ℕ, zero, suc, ◌+◌, ◌<◌, ◌≤◌, Bool, true, false, cond, eqb, List, [], ◌∷◌, ◌++◌, length, map, refl, sym, ap, subst, ◌∙◌, append_assoc, arith, inl, inr}
+use Rattle.std.proofs.Common.{◌≡◌, ℕ, zero, suc, ◌+◌, ◌<◌, ◌≤◌, Bool, true, false, cond, eqb, List, [], ◌∷◌, ◌++◌}
+use Rattle.std.proofs.Common.{length, map, refl, sym, ap, subst, ◌∙◌, append_assoc, arith, inl, inr}
 use Rattle.std.specs.Prelude.{nat_lt, nat_le, not, ◌&&◌, ◌||◌, ◌==◌}
 use Rattle.std.specs.List.{list_all, range_with_len, AllByRecursion}
-use Rattle.std.proofs.lemmas.Bool.{cases_lt, cases_eq, cases_Bool, lt-ltb, le-ltb, ltb-true, leb-true, le-leb, eqb-true, eq-eqb, ne_eqb, and_parts, and_from, not-true, not_from_false, false_from_ne_true, or_left, or_right, false≢true}
+use Rattle.std.proofs.lemmas.Bool.{cases_lt, cases_eq, cases_Bool, lt-ltb, le-ltb, ltb-true, leb-true, le-leb}
+use Rattle.std.proofs.lemmas.Bool.{eqb-true, eq-eqb, ne_eqb, and_parts, and_from, not-true, not_from_false}
+use Rattle.std.proofs.lemmas.Bool.{false_from_ne_true, or_left, or_right, false≢true}
 use Rattle.std.proofs.lemmas.List.{length-append, map-append}
 use Rattle.cla_packed.specs.Fields.{EachIs}
 use Rattle.cla_layout.specs.Groups.{occurrences_of}

@@ -1,12 +1,14 @@
 -- Layouts with their kinds are packed layouts.
-use Rattle.std.proofs.Common.{◌≡◌, ℕ, ◌≤◌, List, [], ◌∷◌, length, map, refl, sym, ap, subst, ◌∙◌, arith, Ok, Err, None, Result}
+use Rattle.std.proofs.Common.{◌≡◌, ℕ, ◌≤◌, List, [], ◌∷◌, length, map, refl, sym, ap, subst, ◌∙◌, arith, Ok, Err}
+use Rattle.std.proofs.Common.{None, Result}
 use Rattle.cla_layout.specs.declared.kind.Kind.{Kind}
 use Rattle.cla_layout.specs.Layouts.{LayoutPart, Layout}
 use Rattle.cla_layout.specs.Canonical.{IsCanonical}
 use Rattle.cla_packed.specs.declared.fault.PackFault.{PackFault}
 use Rattle.cla_packed.specs.Fields.{IsBytes, whole_at}
 use Rattle.cla_packed.specs.Files.{PackedGroup, PackedLayout, file_at, file_bytes}
-use Rattle.cla_packed.specs.Layouts.{part_of, layout_in, kinds_in, groups_of, packed_of, encoded, fault_in, first_bad_field}
+use Rattle.cla_packed.specs.Layouts.{part_of, layout_in, kinds_in, groups_of, packed_of, encoded, fault_in}
+use Rattle.cla_packed.specs.Layouts.{first_bad_field}
 use Rattle.cla_packed_laws.specs.Laws.{IsEncodedIn}
 use Rattle.cla_packed_laws.proofs.Files.{file_form}
 use Rattle.cla_packed_laws.proofs.Canonical.{canonical_from, file_from}

@@ -1,4 +1,5 @@
--- Packed files that were written down by hand, cut short at each byte, and with a byte of a field changed: what they hold
+-- Packed files that were written down by hand, cut short at each byte, and with a byte of a field changed: what they
+-- hold
 -- is found by computing.
 use Rattle.std.proofs.Common.{◌≡◌, ℕ, ◌+◌, pos, neg_ℤ, List, [], ◌∷◌, ◌++◌, Some, None, refl, drop, map}
 use Rattle.std.specs.Prelude.{codes, take, replicate, Option}

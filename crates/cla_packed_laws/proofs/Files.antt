@@ -1,5 +1,6 @@
 -- Groups and whole files, both ways.
-use Rattle.std.proofs.Common.{◌≡◌, ℕ, ℤ, pos, zero, suc, ◌+◌, ◌*◌, ◌^◌, ◌<◌, ◌≤◌, true, cond, List, [], ◌∷◌, ◌++◌, length, refl, sym, ap, ◌∙◌, arith}
+use Rattle.std.proofs.Common.{◌≡◌, ℕ, ℤ, pos, zero, suc, ◌+◌, ◌*◌, ◌^◌, ◌<◌, ◌≤◌, true, cond, List, [], ◌∷◌, ◌++◌}
+use Rattle.std.proofs.Common.{length, refl, sym, ap, ◌∙◌, arith}
 use Rattle.std.specs.Prelude.{nat_lt, nat_le, not, ◌&&◌, ◌||◌, ◌==◌}
 use Rattle.std.specs.List.{flat_map, list_all, range_with_len}
 use Rattle.std.proofs.lemmas.Bool.{ltb-true, leb-true, eqb-true, eq-eqb, and_parts}
@@ -17,8 +18,12 @@ use Rattle.cla_packed.specs.Codes.{has}
 use Rattle.cla_packed.specs.Offsets.{offsets_at, offsets_bytes}
 use Rattle.cla_packed.specs.Runs.{runs_at, runs_bytes}
 use Rattle.cla_packed.specs.Bodies.{Body}
-use Rattle.cla_packed.specs.Files.{kind_of, kind_at, fits_width, fits_column, columns_at, columns_bytes, PackedGroup, any_tuple, own_codes, plain_at, IsPlain, body_at, IsBodyOf, body_bytes, columns_of, group_of, parts_of_group, group_at, group_bytes, magic, fits_size, layout_of, header_of, file_at, file_bytes, AreColumns, IsGroupHere, IsFile}
-use Rattle.cla_packed_laws.proofs.Forms.{IsForm, IsFileForm, field_form, refused_form, then_form, list_form, as_form, whole_form}
+use Rattle.cla_packed.specs.Files.{kind_of, kind_at, fits_width, fits_column, columns_at, columns_bytes, PackedGroup}
+use Rattle.cla_packed.specs.Files.{any_tuple, own_codes, plain_at, IsPlain, body_at, IsBodyOf, body_bytes, columns_of}
+use Rattle.cla_packed.specs.Files.{group_of, parts_of_group, group_at, group_bytes, magic, fits_size, layout_of}
+use Rattle.cla_packed.specs.Files.{header_of, file_at, file_bytes, AreColumns, IsGroupHere, IsFile}
+use Rattle.cla_packed_laws.proofs.Forms.{IsForm, IsFileForm, field_form, refused_form, then_form, list_form, as_form}
+use Rattle.cla_packed_laws.proofs.Forms.{whole_form}
 use Rattle.cla_packed_laws.proofs.Tests.{each_by}
 use Rattle.cla_packed_laws.proofs.Values.{tuples_form}
 use Rattle.cla_packed_laws.proofs.Offsets.{offsets_form}

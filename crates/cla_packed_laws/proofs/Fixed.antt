@@ -1,5 +1,6 @@
 -- A canonical layout is fixed by its matrix, the columns of its parts and their kinds.
-use Rattle.std.proofs.Common.{◌≡◌, ℕ, ℤ, pos, ◌<◌, ◌≤◌, true, List, [], ◌∷◌, ◌++◌, length, get_or, map, refl, sym, ap, subst, ◌∙◌, append_assoc, arith, inl, inr}
+use Rattle.std.proofs.Common.{◌≡◌, ℕ, ℤ, pos, ◌<◌, ◌≤◌, true, List, [], ◌∷◌, ◌++◌, length, get_or, map, refl, sym, ap}
+use Rattle.std.proofs.Common.{subst, ◌∙◌, append_assoc, arith, inl, inr}
 use Rattle.std.specs.List.{range_with_len}
 use Rattle.std.proofs.lemmas.Bool.{cases_lt, lt-ltb}
 use Rattle.std.proofs.lemmas.List.{ext_get_or, length-map, length-append, get_or-map, get_or_append_left, get_or_at}
@@ -16,7 +17,8 @@ use Rattle.cla_layout.proofs.PartValues.{codes_count_tuples}
 use Rattle.cla_packed.specs.Fields.{EachIs}
 use Rattle.cla_packed.specs.Codes.{has, different, fits_code}
 use Rattle.cla_packed.specs.Bodies.{AreCanonical}
-use Rattle.cla_packed_laws.proofs.Codes.{AreThoseBelow, none_below, one_more, first_among, first_holds, has_occurring, fits_parts, codes_fit}
+use Rattle.cla_packed_laws.proofs.Codes.{AreThoseBelow, none_below, one_more, first_among, first_holds, has_occurring}
+use Rattle.cla_packed_laws.proofs.Codes.{fits_parts, codes_fit}
 
 -- ---- codes
 

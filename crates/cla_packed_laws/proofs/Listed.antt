@@ -1,10 +1,15 @@
 -- Kinds 3 and 4, both ways, whichever way one tuple's rows are read.
-use Rattle.std.proofs.Common.{◌≡◌, ℕ, ℤ, pos, zero, suc, ◌+◌, ◌-◌, ◌<◌, ◌≤◌, Bool, true, false, cond, eqb, List, [], ◌∷◌, ◌++◌, length, get_or, take, drop, map, replicate, refl, sym, ap, subst, ◌∙◌, arith, inl, inr}
+use Rattle.std.proofs.Common.{◌≡◌, ℕ, ℤ, pos, zero, suc, ◌+◌, ◌-◌, ◌<◌, ◌≤◌, Bool, true, false, cond, eqb, List, []}
+use Rattle.std.proofs.Common.{◌∷◌, ◌++◌, length, get_or, take, drop, map, replicate, refl, sym, ap, subst, ◌∙◌, arith}
+use Rattle.std.proofs.Common.{inl, inr}
 use Rattle.std.specs.Prelude.{nat_lt, nat_le, not}
 use Rattle.std.specs.List.{list_all, flat_map, range_with_len, AllByRecursion}
-use Rattle.std.proofs.lemmas.Bool.{cases_lt, cases_eq, cases_Bool, lt-ltb, le-ltb, ltb-true, ltb-false, le-leb, eq-eqb, ne_eqb, and_parts, and_from, cond-true, cond-false, not-true, not_from_false, false≢true, not-false, false_from_ne_true}
+use Rattle.std.proofs.lemmas.Bool.{cases_lt, cases_eq, cases_Bool, lt-ltb, le-ltb, ltb-true, ltb-false, le-leb}
+use Rattle.std.proofs.lemmas.Bool.{eq-eqb, ne_eqb, and_parts, and_from, cond-true, cond-false, not-true}
+use Rattle.std.proofs.lemmas.Bool.{not_from_false, false≢true, not-false, false_from_ne_true}
 use Rattle.std.proofs.lemmas.List.FromFn.{length-map-range_with_len}
-use Rattle.std.proofs.lemmas.List.{length-append, length-map, length-replicate, length-take-le, length-drop, take-append-drop}
+use Rattle.std.proofs.lemmas.List.{length-append, length-map, length-replicate, length-take-le, length-drop}
+use Rattle.std.proofs.lemmas.List.{take-append-drop}
 use Rattle.std.proofs.lemmas.List.Sums.{passes_at_first, fails_before_first}
 use Rattle.cla_spec.specs.Bytes.{Holds, bytes_of, past}
 use Rattle.cla_packed.specs.declared.fault.FieldName.TheVariants.{Tuples, Rest, Cover}
@@ -16,7 +21,9 @@ use Rattle.cla_packed.specs.Values.{tuple_bytes, tuples_at, is_among, IsTuple}
 use Rattle.cla_packed.specs.Codes.{has}
 use Rattle.cla_packed.specs.Bodies.{Body, AreCanonical, IsBody}
 use Rattle.cla_packed.specs.Lists.{named, IsList, owner_in, owners_of, rows_from, lists_of, AreOwners}
-use Rattle.cla_packed.specs.Rests.{with_rest, without_rest, rest_code, all_named, fits_listed, with_tuple, without_tuple, Parts, body_with, body_of_parts, parts_in, listed_parts_at, listed_at, parts_bytes, listed_bytes}
+use Rattle.cla_packed.specs.Rests.{with_rest, without_rest, rest_code, all_named, fits_listed, with_tuple}
+use Rattle.cla_packed.specs.Rests.{without_tuple, Parts, body_with, body_of_parts, parts_in, listed_parts_at}
+use Rattle.cla_packed.specs.Rests.{listed_at, parts_bytes, listed_bytes}
 use Rattle.cla_packed_laws.proofs.Forms.{IsForm, field_form, checked_form, then_form, list_form, as_form}
 use Rattle.cla_packed_laws.proofs.Values.{tuples_form}
 use Rattle.cla_packed_laws.proofs.Distinct.{distinct_from, distinct_each}
@@ -25,7 +32,9 @@ use Rattle.cla_packed_laws.proofs.Coded.{few_codes}
 use Rattle.cla_packed_laws.proofs.Lists.{owners_from, owners_again}
 use Rattle.cla_packed_laws.proofs.Rests.{codes_from_owners, owners_from_codes, rest_code_is, rest_code_fits}
 use Rattle.cla_layout.specs.Listed.{is_zero}
-use Rattle.cla_packed_laws.proofs.Zeros.{rest_in, parts_from, parts_found, zeros_are, zero_is, none_zero, zero_found, distinct_without, apart_from_one, distinct_with, parts_is, without_with, with_without, all-parts, all-append, all_in, all_out}
+use Rattle.cla_packed_laws.proofs.Zeros.{rest_in, parts_from, parts_found, zeros_are, zero_is, none_zero, zero_found}
+use Rattle.cla_packed_laws.proofs.Zeros.{distinct_without, apart_from_one, distinct_with, parts_is, without_with}
+use Rattle.cla_packed_laws.proofs.Zeros.{with_without, all-parts, all-append, all_in, all_out}
 
 -- ---- cover
 

@@ -1,15 +1,19 @@
 -- Lists of rows that pass their tests are the owners of rows, numbered by first row.
-use Rattle.std.proofs.Common.{◌≡◌, ℕ, zero, suc, ◌+◌, ◌-◌, ◌<◌, ◌≤◌, Bool, true, false, cond, eqb, List, [], ◌∷◌, ◌++◌, length, get_or, take, map, refl, sym, ap, subst, ◌∙◌, arith, inl, inr}
+use Rattle.std.proofs.Common.{◌≡◌, ℕ, zero, suc, ◌+◌, ◌-◌, ◌<◌, ◌≤◌, Bool, true, false, cond, eqb, List, [], ◌∷◌}
+use Rattle.std.proofs.Common.{◌++◌, length, get_or, take, map, refl, sym, ap, subst, ◌∙◌, arith, inl, inr}
 use Rattle.std.specs.List.{position_or_len, range_with_len, filter, AllByRecursion}
-use Rattle.std.proofs.lemmas.Bool.{cases_lt, cases_eq, cases_Bool, eqb-true, eq-eqb, ne_eqb, false_from_ne_true, or_left, or_right, false≢true}
-use Rattle.std.proofs.lemmas.List.{map-append, get_or-map, length-append, length-map, length_push, get_or_append_left, get_or_at, ext_get_or, take_at}
+use Rattle.std.proofs.lemmas.Bool.{cases_lt, cases_eq, cases_Bool, eqb-true, eq-eqb, ne_eqb, false_from_ne_true}
+use Rattle.std.proofs.lemmas.Bool.{or_left, or_right, false≢true}
+use Rattle.std.proofs.lemmas.List.{map-append, get_or-map, length-append, length-map, length_push, get_or_append_left}
+use Rattle.std.proofs.lemmas.List.{get_or_at, ext_get_or, take_at}
 use Rattle.std.proofs.lemmas.List.Folds.{list_any_at}
 use Rattle.std.proofs.lemmas.List.FromFn.{length-map-range_with_len, take-map-range_with_len, get_or-map-range_with_len}
 use Rattle.std.proofs.lemmas.List.Sums.{position_or_len_is, passes_at_first}
 use Rattle.cla_packed.specs.Fields.{EachIs}
 use Rattle.cla_layout.specs.Groups.{code_of, first_row_of, AreNumbered}
 use Rattle.cla_packed.specs.Codes.{has}
-use Rattle.cla_packed.specs.Lists.{next_from, RisingFrom, named, first_of, floor_of, IsList, owner_in, owners_of, rows_from, lists_of, AreOwners}
+use Rattle.cla_packed.specs.Lists.{next_from, RisingFrom, named, first_of, floor_of, IsList, owner_in, owners_of}
+use Rattle.cla_packed.specs.Lists.{rows_from, lists_of, AreOwners}
 use Rattle.cla_packed_laws.proofs.Tests.{each_to, each_from}
 use Rattle.cla_packed_laws.proofs.Codes.{first_here, first_later, has_at}
 

@@ -1,5 +1,6 @@
 -- Offset lists, both ways.
-use Rattle.std.proofs.Common.{◌≡◌, ℕ, zero, suc, ◌+◌, ◌-◌, ◌*◌, ◌%◌, ◌<◌, ◌≤◌, true, List, [], ◌∷◌, ◌++◌, length, take, drop, min, refl, sym, ap, subst, ◌∙◌, arith, inl, inr}
+use Rattle.std.proofs.Common.{◌≡◌, ℕ, zero, suc, ◌+◌, ◌-◌, ◌*◌, ◌%◌, ◌<◌, ◌≤◌, true, List, [], ◌∷◌, ◌++◌, length}
+use Rattle.std.proofs.Common.{take, drop, min, refl, sym, ap, subst, ◌∙◌, arith, inl, inr}
 use Rattle.std.specs.Prelude.{nat_lt, nat_le, ◌||◌}
 use Rattle.std.specs.List.{flat_map, prefix_len, AllByRecursion}
 use Rattle.std.proofs.lemmas.Bool.{cases_lt, lt-ltb, le-ltb, ltb-true, leb-true, le-leb, and_parts, and_from}
@@ -10,7 +11,8 @@ use Rattle.cla_spec.specs.Bytes.{bytes_of, past}
 use Rattle.cla_packed.specs.declared.fault.FieldName.TheVariants.{Count, Offset}
 use Rattle.cla_packed.specs.Fields.{field_at, then_at, list_at, EachIs}
 use Rattle.cla_packed.specs.Lists.{next_from, RisingFrom, IsList}
-use Rattle.cla_packed.specs.Offsets.{fits_row, joined, segment_rows, fits_count, fits_offset, row_at, segment_at, segments, offsets_at, parted, segment_bytes, offsets_bytes}
+use Rattle.cla_packed.specs.Offsets.{fits_row, joined, segment_rows, fits_count, fits_offset, row_at, segment_at}
+use Rattle.cla_packed.specs.Offsets.{segments, offsets_at, parted, segment_bytes, offsets_bytes}
 use Rattle.cla_packed_laws.proofs.Forms.{IsForm, field_form, then_form, list_form, as_form}
 use Rattle.cla_packed_laws.proofs.Tests.{at_last, from_last, each_by}
 use Rattle.cla_packed_laws.proofs.Lists.{rising_next}

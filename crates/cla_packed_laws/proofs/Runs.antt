@@ -1,14 +1,17 @@
 -- Runs, both ways.
-use Rattle.std.proofs.Common.{◌≡◌, ℕ, zero, suc, ◌+◌, ◌-◌, ◌<◌, ◌≤◌, true, false, List, [], ◌∷◌, ◌++◌, length, refl, sym, ap, subst, ◌∙◌, arith, inl, inr}
+use Rattle.std.proofs.Common.{◌≡◌, ℕ, zero, suc, ◌+◌, ◌-◌, ◌<◌, ◌≤◌, true, false, List, [], ◌∷◌, ◌++◌, length, refl}
+use Rattle.std.proofs.Common.{sym, ap, subst, ◌∙◌, arith, inl, inr}
 use Rattle.std.specs.Prelude.{nat_lt, nat_le, ◌||◌, ◌&&◌, not, ◌==◌}
 use Rattle.std.specs.List.{flat_map, list_all, range_with_len, AllByRecursion}
-use Rattle.std.proofs.lemmas.Bool.{cases_lt, cases_eq, lt-ltb, ltb-true, leb-true, le-leb, eqb-true, eq-eqb, ne_eqb, and_parts, and_from, or_left, or_right, or_cases, not-true, not_from_false}
+use Rattle.std.proofs.lemmas.Bool.{cases_lt, cases_eq, lt-ltb, ltb-true, leb-true, le-leb, eqb-true, eq-eqb, ne_eqb}
+use Rattle.std.proofs.lemmas.Bool.{and_parts, and_from, or_left, or_right, or_cases, not-true, not_from_false}
 use Rattle.std.proofs.lemmas.List.{length-append}
 use Rattle.cla_spec.specs.Bytes.{bytes_of, past}
 use Rattle.cla_packed.specs.declared.fault.FieldName.TheVariants.{Runs, Gap, Length}
 use Rattle.cla_packed.specs.Fields.{field_at, then_at, list_at, EachIs}
 use Rattle.cla_packed.specs.Lists.{next_from, RisingFrom, named, first_of, floor_of, IsList}
-use Rattle.cla_packed.specs.Runs.{Run, end_of, rows_of_runs, one_more_row, runs_of_rows, fits_gap, fits_length, run_at, fits_runs, runs_at, run_bytes, runs_bytes}
+use Rattle.cla_packed.specs.Runs.{Run, end_of, rows_of_runs, one_more_row, runs_of_rows, fits_gap, fits_length}
+use Rattle.cla_packed.specs.Runs.{run_at, fits_runs, runs_at, run_bytes, runs_bytes}
 use Rattle.cla_packed_laws.proofs.Forms.{IsForm, field_form, then_form, list_form, as_form}
 use Rattle.cla_packed_laws.proofs.Lists.{rising_next, rises_sooner}
 use Rattle.cla_packed_laws.proofs.Offsets.{all-append, next_within, rising_few}

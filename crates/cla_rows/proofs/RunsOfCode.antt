@@ -1,12 +1,15 @@
 -- The runs of one code, among all runs.
-use Rattle.std.proofs.Common.{◌≡◌, true, false, Bool, ℕ, zero, suc, ◌+◌, ◌-◌, ◌<◌, ◌≤◌, List, [], ◌∷◌, ◌++◌, length, map, cond, eqb, refl}
+use Rattle.std.proofs.Common.{◌≡◌, true, false, Bool, ℕ, zero, suc, ◌+◌, ◌-◌, ◌<◌, ◌≤◌, List, [], ◌∷◌, ◌++◌, length}
+use Rattle.std.proofs.Common.{map, cond, eqb, refl}
 use Rattle.std.proofs.Common.{subst, ap, sym, ◌∙◌, arith, inl, inr}
 use Rattle.std.specs.Prelude.{not, ◌&&◌, ◌||◌}
-use Rattle.std.proofs.lemmas.Bool.{cases_eq, cases_lt, eqb-true, eq-eqb, ne_eqb, and_from, and_left, and_right, or_left, or_right}
+use Rattle.std.proofs.lemmas.Bool.{cases_eq, cases_lt, eqb-true, eq-eqb, ne_eqb, and_from, and_left, and_right}
+use Rattle.std.proofs.lemmas.Bool.{or_left, or_right}
 use Rattle.std.proofs.lemmas.List.{ext_get_or, map-append, append-nil, length-map, get_or-map, length_push}
 use Rattle.cla_layout.specs.Groups.{code_of}
 use Rattle.cla_layout.specs.Listed.{rows_where, rows_of, begins_run, run_begins}
-use Rattle.cla_layout.proofs.Listings.{rows_where_more, rows_where_yes, rows_where_no, row_place, rows_where_from, rows_where_none}
+use Rattle.cla_layout.proofs.Listings.{rows_where_more, rows_where_yes, rows_where_no, row_place, rows_where_from}
+use Rattle.cla_layout.proofs.Listings.{rows_where_none}
 use Rattle.cla_layout.proofs.Listings.{are_rows_where}
 use Rattle.cla_rows.specs.RunBounds.{AreRuns}
 use Rattle.cla_rows.specs.CodeRuns.{IsMaximalRun, IsRun, listed_begins, listed_keys, AreRunsByKey}

@@ -2,7 +2,8 @@
 use Rattle.std.specs.Prelude.{◌≡◌, ℕ, ◌+◌, ◌<◌, ◌≤◌, List, length}
 use Rattle.cla_layout.specs.Groups.{code_of, occurrences_of, first_row_of}
 
--- the new codes of rows, numbered by first row, and the old code that each of them stands for; there were `tuples` old codes
+-- the new codes of rows, numbered by first row, and the old code that each of them stands for; there were `tuples`
+-- old codes
 pub record AreRenamed (tuples : ℕ) (old new order : List ℕ) : Type 0 where
   pub rows : length new ≡ length old
   pub named : (i : ℕ) → i < length old → code_of new i < length order

@@ -1,7 +1,10 @@
--- Rows that are kept as runs (PVLDB 9(12), run-length encoding). One code, the rest, has no runs; the maximal runs of all
--- others stand in the order of rows. Run n goes from begin n to before end n + 1, and has key n. The rows before it, from
+-- Rows that are kept as runs (PVLDB 9(12), run-length encoding). One code, the rest, has no runs; the maximal runs of
+-- all
+-- others stand in the order of rows. Run n goes from begin n to before end n + 1, and has key n. The rows before it,
+-- from
 -- end n to before begin n, have the rest; so end 0 is row 0, and the last begin is where the rows end.
-use Rattle.std.specs.Prelude.{◌≡◌, ℕ, ◌+◌, ◌-◌, ◌/◌, ◌%◌, ◌==◌, ◌<◌, ◌≤◌, List, length, map, nat_lt, nat_le, if◌then◌else◌}
+use Rattle.std.specs.Prelude.{◌≡◌, ℕ, ◌+◌, ◌-◌, ◌/◌, ◌%◌, ◌==◌, ◌<◌, ◌≤◌, List, length, map, nat_lt, nat_le}
+use Rattle.std.specs.Prelude.{if◌then◌else◌}
 use Rattle.std.specs.List.{range_with_len, position_or_len}
 use Rattle.cla_layout.specs.Groups.{code_of}
 

@@ -15,7 +15,8 @@ pub run_counted : (codes : List ℕ) (tuples : ℕ) (counts first_rows : List �
     AreCountedFrom i codes tuples (set counts code (code_of counts code + (m + 1))) (set first_rows code i)
 run_counted codes tuples counts first_rows code zero i within same below are =
     let one : i + 0 + 1 ≡ i + 1 = omega arith in
-    counted_more i codes tuples counts first_rows code (omega (arith, within)) (sym (same i (omega arith) (omega arith)))
+    counted_more i codes tuples counts first_rows code (omega (arith, within))
+    (sym (same i (omega arith) (omega arith)))
     below (subst (λ (n : ℕ). AreCountedFrom n codes tuples counts first_rows) one are)
 run_counted codes tuples counts first_rows code (suc m) i within same below are =
     let next : i + suc m + 1 ≡ (i + 1) + m + 1 = omega arith in

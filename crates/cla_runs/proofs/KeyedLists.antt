@@ -58,7 +58,8 @@ first_more n begins ends keys runs are =
 module _ {rows : ℕ} {codes : List ℕ} {rest : ℕ} {begins ends keys : List ℕ}
     (are : AreRuns rows codes rest begins ends keys) where
   -- the row after a run has another code, if there is one
-  run_last : (n : ℕ) → n < length keys → code_of ends (n + 1) < rows → code_of codes (code_of ends (n + 1)) ≡ code_of keys n →
+  run_last : (n : ℕ) → n < length keys → code_of ends (n + 1) < rows
+      → code_of codes (code_of ends (n + 1)) ≡ code_of keys n →
       ⊥
   run_last n there more same =
       let end = code_of ends (n + 1) in
@@ -66,14 +67,16 @@ module _ {rows : ℕ} {codes : List ℕ} {rest : ℕ} {begins ends keys : List �
         | inl gap ↦ are.listed n there (sym same ∙ are.in_gap (n + 1) end (omega (arith, there)) (omega arith) gap)
         | inr none ↦
             let touch : end ≡ code_of begins (n + 1) = omega (arith, none, are.rising (n + 1) (omega (arith, there))) in
-            let next : n + 1 < length keys = run_there are (n + 1) rows (omega (arith, there)) (omega (arith, touch, more))
+            let next : n + 1 < length keys =
+            run_there are (n + 1) rows (omega (arith, there)) (omega (arith, touch, more))
             (omega arith) in
             are.apart n next touch (sym same ∙ are.in_run (n + 1) end next (omega (arith, touch))
             (omega (arith, touch, are.not_empty (n + 1) next)))
       ]
 
   -- and so has the row before it
-  run_first : (n : ℕ) → n < length keys → 0 < code_of begins n → code_of codes (code_of begins n - 1) ≡ code_of keys n → ⊥
+  run_first : (n : ℕ) → n < length keys → 0 < code_of begins n → code_of codes (code_of begins n - 1) ≡ code_of keys n
+      → ⊥
   run_first n there some same =
       let begin = code_of begins n in
       elim (cases_lt (code_of ends n) begin) [
@@ -137,7 +140,8 @@ module _ {rows : ℕ} {codes : List ℕ} {rest : ℕ} {begins ends keys : List �
             elim (cases_lt i (code_of begins n)) [
               | inl gap ↦ absurd (other (code_in_gap are i n is gap))
               | inr run ↦
-                  let there : n < length keys = run_there are n (i + 1) is.there (omega (arith, run)) (omega (arith, row)) in (
+                  let there : n < length keys =
+                  run_there are n (i + 1) is.there (omega (arith, run)) (omega (arith, row)) in (
                     run_in begins ends keys n,
                     (
                       n,
@@ -154,7 +158,8 @@ module _ {rows : ℕ} {codes : List ℕ} {rest : ℕ} {begins ends keys : List �
             omega (
               arith,
               begins_rise i j before here,
-              sym (get_or_default (begins_of runs) i d 0 (omega (arith, before, there)) ∙ begin i (omega (arith, before, here)))
+              sym (get_or_default (begins_of runs) i d 0 (omega (arith, before, there))
+                  ∙ begin i (omega (arith, before, here)))
                   ∙ same ∙ get_or_default (begins_of runs) j d 0 there ∙ begin j here,
             )));
       }

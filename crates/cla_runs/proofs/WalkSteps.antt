@@ -1,5 +1,6 @@
 -- Steps of walks over rows, stretch by stretch.
-use Rattle.std.proofs.Common.{◌≡◌, ℕ, ℤ, pos, zero, suc, ◌+◌, ◌-◌, ◌<◌, ◌≤◌, List, length, set, max, min, ap, sym, ◌∙◌, arith, inl, inr}
+use Rattle.std.proofs.Common.{◌≡◌, ℕ, ℤ, pos, zero, suc, ◌+◌, ◌-◌, ◌<◌, ◌≤◌, List, length, set, max, min, ap, sym}
+use Rattle.std.proofs.Common.{◌∙◌, arith, inl, inr}
 use Rattle.std.proofs.lemmas.Bool.{cases_eq, cases_lt}
 use Rattle.std.proofs.lemmas.List.{get_or-set_same, get_or-set_other, length-set}
 use Rattle.cla_layout.specs.Groups.{at, code_of, gathered_to}
@@ -48,7 +49,8 @@ gathered_on {codes} {key} {b = b} {items = items} {sums = sums} v so_far stretch
   ];
 }
 
--- the rows of the next stretch have their code: of the rows from row a to before row b, those from its begin to before its end
+-- the rows of the next stretch have their code: of the rows from row a to before row b, those from its begin to
+-- before its end
 pub coded_on : {codes : List ℕ} {k from to a : ℕ} {made : List ℕ} (b begin end : ℕ) (new : List ℕ) →
     IsStretch codes k from to →
     AreCodedTo from codes a made → length new ≡ length made → a + length made ≡ b →

@@ -19,7 +19,8 @@ abbrev pub AddsRun : RunList → ℕ → ℕ → RunList → Type 0
 AddsRun before code end after = (rows : ℕ) (codes : List ℕ) (rest : ℕ) → AreRunsIn before rows codes rest →
     (code ≡ rest → ⊥) → AreMore rows end code codes → AreRunsIn after end codes rest
 
--- these were the runs in the first rows of some codes, and with the rows up to row `end`, which have one code, are these
+-- these were the runs in the first rows of some codes, and with the rows up to row `end`, which have one code, are
+-- these
 abbrev pub Adds : RunList → ℕ → ℕ → ℕ → RunList → Type 0
 Adds before code rest end after = (rows : ℕ) (codes : List ℕ) → AreRunsIn before rows codes rest →
     AreMore rows end code codes → AreRunsIn after end codes rest

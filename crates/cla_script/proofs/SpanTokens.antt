@@ -17,26 +17,33 @@ use Rattle.cla_script.specs.declared.refusal.Refusal.{Refusal}
 use Rattle.cla_tokens.specs.declared.token.TokenKind.{TokenKind}
 use Rattle.cla_tokens.specs.declared.token.TokenKind.TheVariants.{Number, Colon}
 
-number_is_all : (bits : ℕ) (q p : Place) (s : List Frame) (t : Tree) (part : machine.Part) (k : TokenKind) → ((d : _) → k ≡ Number d → ⊥)
+number_is_all : (bits : ℕ) (q p : Place) (s : List Frame) (t : Tree) (part : machine.Part) (k : TokenKind)
+    → ((d : _) → k ≡ Number d → ⊥)
     → test bits (InSpan p s t part machine.Nothing) (at q (kind_of k)) ≡ settled (ended (kind_of k) p s t part Every)
 number_is_all bits q p s t part (Number d) h = absurd (h d refl)
 number_is_all bits q p s t part _ h = refl
 
-colon_is_all : (bits : ℕ) (q p : Place) (s : List Frame) (t : Tree) (part : machine.Part) (n : ℕ) (k : TokenKind) → (k ≡ Colon → ⊥)
-    → test bits (InSpan p s t part (machine.Once n)) (at q (kind_of k)) ≡ settled (ended (kind_of k) p s t part (tree.One n))
+colon_is_all : (bits : ℕ) (q p : Place) (s : List Frame) (t : Tree) (part : machine.Part) (n : ℕ) (k : TokenKind)
+    → (k ≡ Colon → ⊥)
+    → test bits (InSpan p s t part (machine.Once n)) (at q (kind_of k)) ≡ settled
+    (ended (kind_of k) p s t part (tree.One n))
 colon_is_all bits q p s t part n Colon h = absurd (h refl)
 colon_is_all bits q p s t part n _ h = refl
 
-pub no_number : {N : Type 0} (value : N → ℤ) (bits : ℕ) (q p : Place) (s : List Frame) (t : Tree) (part : machine.Part) (seen : Seen)
+pub no_number : {N : Type 0} (value : N → ℤ) (bits : ℕ) (q p : Place) (s : List Frame) (t : Tree)
+    (part : machine.Part) (seen : Seen)
     (k : TokenKind) (r : Result (Builder N) Refusal) → seen ≡ Nothing → ((d : _) → k ≡ Number d → ⊥)
     → Tells value r (settled (ended (kind_of k) p s t part Every))
     → Tells value r (test bits (InSpan p s t part (seen_of seen)) (at q (kind_of k)))
 no_number value bits q p s t part seen k r is h f = subst (λ (x : Result State ScriptKind). Tells value r x)
-    (sym (ap (λ (y : Seen). test bits (InSpan p s t part (seen_of y)) (at q (kind_of k))) is ∙ number_is_all bits q p s t part k h)) f
+    (sym (ap (λ (y : Seen). test bits (InSpan p s t part (seen_of y)) (at q (kind_of k))) is
+    ∙ number_is_all bits q p s t part k h)) f
 
-pub no_colon : {N : Type 0} (value : N → ℤ) (bits : ℕ) (q p : Place) (s : List Frame) (t : Tree) (part : machine.Part) (seen : Seen)
+pub no_colon : {N : Type 0} (value : N → ℤ) (bits : ℕ) (q p : Place) (s : List Frame) (t : Tree) (part : machine.Part)
+    (seen : Seen)
     (n : ℕ) (k : TokenKind) (r : Result (Builder N) Refusal) → seen ≡ Once n → (k ≡ Colon → ⊥)
     → Tells value r (settled (ended (kind_of k) p s t part (tree.One n)))
     → Tells value r (test bits (InSpan p s t part (seen_of seen)) (at q (kind_of k)))
 no_colon value bits q p s t part seen n k r is h f = subst (λ (x : Result State ScriptKind). Tells value r x)
-    (sym (ap (λ (y : Seen). test bits (InSpan p s t part (seen_of y)) (at q (kind_of k))) is ∙ colon_is_all bits q p s t part n k h)) f
+    (sym (ap (λ (y : Seen). test bits (InSpan p s t part (seen_of y)) (at q (kind_of k))) is
+    ∙ colon_is_all bits q p s t part n k h)) f

@@ -1,5 +1,6 @@
 -- The tuples of columns by their entries.
-use Rattle.std.proofs.Common.{◌≡◌, ℕ, ℤ, pos, suc, ◌+◌, ◌<◌, ◌≤◌, ◌&&◌, Bool, true, false, List, [], ◌∷◌, ◌++◌, map, length, get_or, refl, sym, ap, ◌∙◌, arith, Vec, mul-le-mul_left}
+use Rattle.std.proofs.Common.{◌≡◌, ℕ, ℤ, pos, suc, ◌+◌, ◌<◌, ◌≤◌, ◌&&◌, Bool, true, false, List, [], ◌∷◌, ◌++◌, map}
+use Rattle.std.proofs.Common.{length, get_or, refl, sym, ap, ◌∙◌, arith, Vec, mul-le-mul_left}
 use Rattle.std.specs.Ordering.{int_eq}
 use Rattle.std.specs.declared.alloc.Global.{Global}
 use Rattle.std.proofs.lemmas.List.{length-map, length_push, get_or-map}
@@ -50,7 +51,8 @@ entry-zero value items i x there is =
     ap (λ v. int_eq v (pos 0)) (get_or-map value items i x (pos 0) there ∙ ap value (sym is))
 
 -- one more column is counted
-pub each-more : (m : Matrix) (first : ℕ) (old new : List TuplesOf) (t : TuplesOf) → old ≡ tuples_of_each m first (length old)
+pub each-more : (m : Matrix) (first : ℕ) (old new : List TuplesOf) (t : TuplesOf)
+    → old ≡ tuples_of_each m first (length old)
     → new ≡ old ++ t ∷ [] → t ≡ tuples_in m ((first + length old) ∷ []) → new ≡ tuples_of_each m first (length new)
 each-more m first old new t is push tuple =
     let one = ap length push ∙ length_push old t in

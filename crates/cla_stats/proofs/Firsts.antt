@@ -1,5 +1,6 @@
 -- The first row that passes a test, found row by row.
-use Rattle.std.proofs.Common.{◌≡◌, ℕ, ◌<◌, Bool, true, false, cond, nat_lt, lt-ltb, List, length, sym, ap, ◌∙◌, arith, Some, None}
+use Rattle.std.proofs.Common.{◌≡◌, ℕ, ◌<◌, Bool, true, false, cond, nat_lt, lt-ltb, List, length, sym, ap, ◌∙◌, arith}
+use Rattle.std.proofs.Common.{Some, None}
 use Rattle.std.specs.List.{position_or_len, range_with_len}
 use Rattle.std.proofs.lemmas.List.Sums.{position_or_len_is}
 use Rattle.std.proofs.lemmas.List.FromFn.{length-range_with_len, get_or-range_with_len}
@@ -10,7 +11,8 @@ row_is : (n i : ℕ) → i < n → code_of (range_with_len 0 n) i ≡ i
 row_is n i h = get_or-range_with_len 0 n i 0 h ∙ omega arith
 
 -- the first row that passes
-pub found_at : (test : ℕ → Bool) (codes : List ℕ) (i : ℕ) → i < length codes → ((j : ℕ) → j < i → test j ≡ false) → test i ≡ true → Some (code_of codes i) ≡ code_where test codes
+pub found_at : (test : ℕ → Bool) (codes : List ℕ) (i : ℕ) → i < length codes → ((j : ℕ) → j < i → test j ≡ false)
+    → test i ≡ true → Some (code_of codes i) ≡ code_where test codes
 found_at test codes i row before here =
     let n = length codes in
     let first : position_or_len test (range_with_len 0 n) ≡ i =
@@ -21,7 +23,8 @@ found_at test codes i row before here =
     ∙ ap (λ j. cond (nat_lt j n) (Some (code_of codes j)) None) (sym first)
 
 -- none passes
-pub found_none : (test : ℕ → Bool) (codes : List ℕ) → ((j : ℕ) → j < length codes → test j ≡ false) → None ≡ code_where test codes
+pub found_none : (test : ℕ → Bool) (codes : List ℕ) → ((j : ℕ) → j < length codes → test j ≡ false)
+    → None ≡ code_where test codes
 found_none test codes before =
     let n = length codes in
     let first : position_or_len test (range_with_len 0 n) ≡ n =

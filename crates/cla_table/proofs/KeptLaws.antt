@@ -1,5 +1,6 @@
 -- Sums that are kept by place.
-use Rattle.std.proofs.Common.{inl, inr, zero, suc, ◌≡◌, ◌<◌, ℕ, ℤ, pos, ◌==◌, nat_eq, false, take, slice_get, cond, List, [], ◌∷◌, Option, Some, None, refl, sym, ◌∙◌}
+use Rattle.std.proofs.Common.{inl, inr, zero, suc, ◌≡◌, ◌<◌, ℕ, ℤ, pos, ◌==◌, nat_eq, false, take, slice_get, cond}
+use Rattle.std.proofs.Common.{List, [], ◌∷◌, Option, Some, None, refl, sym, ◌∙◌}
 use Rattle.std.proofs.lemmas.Bool.{cases_eq, eq-eqb, ne_eqb}
 use Rattle.std.specs.Map.{lookup, keys_of}
 use Rattle.std.specs.List.{IsDistinct, AllByRecursion}

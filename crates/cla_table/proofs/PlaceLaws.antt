@@ -1,9 +1,12 @@
 -- Cells in panels.
-use Rattle.std.proofs.Common.{pow_mono, ◌≡◌, ℕ, ◌+◌, ◌-◌, ◌*◌, ◌/◌, ◌%◌, ◌<◌, ◌≤◌, ◌≢◌, ◌^◌, ◌++◌, min, List, length, take, drop, set, length-append, length-drop, get_or, get_or-set_other, get_or-set_same, below_more, refl, ap, sym, ◌∙◌, subst, arith, inl, inr}
+use Rattle.std.proofs.Common.{pow_mono, ◌≡◌, ℕ, ◌+◌, ◌-◌, ◌*◌, ◌/◌, ◌%◌, ◌<◌, ◌≤◌, ◌≢◌, ◌^◌, ◌++◌, min, List, length}
+use Rattle.std.proofs.Common.{take, drop, set, length-append, length-drop, get_or, get_or-set_other, get_or-set_same}
+use Rattle.std.proofs.Common.{below_more, refl, ap, sym, ◌∙◌, subst, arith, inl, inr}
 use Rattle.std.proofs.lemmas.Nat.{div-mul-add, mod-mul-add, div-add-mod', shr_split}
 use Rattle.std.proofs.Math.Nat.{mod-eq_of_lt, div-lt_iff_lt-mul, mul_comm, mul-le-mul_left}
 use Rattle.std.proofs.lemmas.Bool.{cases_lt}
-use Rattle.std.proofs.lemmas.List.{length-take-le, get_or-take, get_or-drop, get_or_default, get_or_append_left, get_or-append_right}
+use Rattle.std.proofs.lemmas.List.{length-take-le, get_or-take, get_or-drop, get_or_default, get_or_append_left}
+use Rattle.std.proofs.lemmas.List.{get_or-append_right}
 use borrow.Rule.Slice.PartMut.{put_mid, post_of}
 use Rattle.cla_table.specs.Places.{first_of, height_of, place_from, place_of, Turns}
 

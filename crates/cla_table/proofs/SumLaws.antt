@@ -1,5 +1,8 @@
 -- Sums in either form.
-use Rattle.std.proofs.Common.{length-append, inl, inr, zero, suc, [], ◌∷◌, ◌++◌, ◌≤◌, take, slice_get, Some, ◌≡◌, ℕ, ℤ, pos, ◌+◌, ◌*◌, ◌/◌, ◌%◌, ◌<◌, ◌^◌, ◌==◌, ◌&&◌, cond, List, length, map, replicate, set, get_or, get_or-set_other, get_or-set_same, refl, sym, ap, ◌∙◌, arith, Result, Ok, Err, OnOk, OnErr}
+use Rattle.std.proofs.Common.{length-append, inl, inr, zero, suc, [], ◌∷◌, ◌++◌, ◌≤◌, take, slice_get, Some, ◌≡◌, ℕ}
+use Rattle.std.proofs.Common.{ℤ, pos, ◌+◌, ◌*◌, ◌/◌, ◌%◌, ◌<◌, ◌^◌, ◌==◌, ◌&&◌, cond, List, length, map, replicate}
+use Rattle.std.proofs.Common.{set, get_or, get_or-set_other, get_or-set_same, refl, sym, ap, ◌∙◌, arith, Result, Ok}
+use Rattle.std.proofs.Common.{Err, OnOk, OnErr}
 use Rattle.std.proofs.lemmas.Bool.{cases_eq, eq-eqb, ne_eqb}
 use Rattle.std.proofs.lemmas.List.{map-set, length-map}
 use Rattle.std.proofs.lemmas.Nat.{same_from_place, pow_pos, div-add-mod'}

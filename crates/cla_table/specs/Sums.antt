@@ -1,5 +1,6 @@
 -- The sums of a table, in either of the two forms in which they are kept.
-use Rattle.std.specs.Prelude.{◌≡◌, ℕ, ℤ, pos, [], ◌+◌, ◌*◌, ◌<◌, ◌^◌, List, length, map, ◌==◌, ◌&&◌, if◌then◌else◌, slice_index_or}
+use Rattle.std.specs.Prelude.{◌≡◌, ℕ, ℤ, pos, [], ◌+◌, ◌*◌, ◌<◌, ◌^◌, List, length, map, ◌==◌, ◌&&◌, if◌then◌else◌}
+use Rattle.std.specs.Prelude.{slice_index_or}
 use Rattle.cla_spec.specs.Matrix.{Matrix, row_by_row}
 use Rattle.cla_table.specs.declared.grid.Grid.{Grid}
 use Rattle.cla_table.specs.declared.sums.Sums.{Sums}

@@ -1,5 +1,6 @@
 -- What the readers of both forms answer, as the table that the bytes hold.
-use Rattle.std.proofs.Common.{◌≡◌, ◌≢◌, ℕ, Bool, true, false, if◌then◌else◌, List, length, take, Option, Some, None, Result, Ok, Err, refl, sym, ap, subst, ◌∙◌, inl, inr}
+use Rattle.std.proofs.Common.{◌≡◌, ◌≢◌, ℕ, Bool, true, false, if◌then◌else◌, List, length, take, Option, Some, None}
+use Rattle.std.proofs.Common.{Result, Ok, Err, refl, sym, ap, subst, ◌∙◌, inl, inr}
 use Rattle.std.specs.Prelude.{nat_eq}
 use Rattle.std.specs.Option.{ForSome}
 use Rattle.std.specs.Cmp.{unsigned_Decides}
@@ -19,7 +20,8 @@ use Rattle.cla_packed.specs.Files.{PackedLayout, magic, file_at}
 use Rattle.cla_pack_reader.specs.Reading.{GivesFileWhereTold, HasLengthWhereTold}
 use Rattle.cla_tables.specs.declared.fault.FileFault.{FileFault}
 use Rattle.cla_tables.specs.declared.fault.FileFault.TheVariants.{Mtx, Pack}
-use Rattle.cla_tables.specs.TableFiles.{TableFile, of_matrix, of_layout, begins_packed, text_or_fault, packed_or_fault, table_in}
+use Rattle.cla_tables.specs.TableFiles.{TableFile, of_matrix, of_layout, begins_packed, text_or_fault}
+use Rattle.cla_tables.specs.TableFiles.{packed_or_fault, table_in}
 use Rattle.cla_tables.specs.Reading.{IsOfPacked, ReadsAs}
 
 -- ---- a text

@@ -1,5 +1,6 @@
 -- Tables of packed files, as they are kept and as they are seen.
-use Rattle.std.proofs.Common.{◌≡◌, ℕ, ◌<◌, Bool, false, List, [], ◌∷◌, length, map, Result, Ok, Err, IfOk, refl, ap, subst, ◌∙◌, sym, arith}
+use Rattle.std.proofs.Common.{◌≡◌, ℕ, ◌<◌, Bool, false, List, [], ◌∷◌, length, map, Result, Ok, Err, IfOk, refl, ap}
+use Rattle.std.proofs.Common.{subst, ◌∙◌, sym, arith}
 use Rattle.std.specs.Prelude.{slice_index_or}
 use Rattle.std.proofs.lemmas.List.{length-map}
 use Rattle.std.proofs.lemmas.Simd.{map-map}

@@ -1,12 +1,14 @@
 -- How many bytes a table takes at most.
-use Rattle.std.proofs.Common.{◌≡◌, ◌≤◌, ◌<◌, ◌+◌, ◌*◌, ◌^◌, ℕ, List, [], ◌∷◌, length, Bool, true, false, if◌then◌else◌, nat_le, map, refl, arith}
+use Rattle.std.proofs.Common.{◌≡◌, ◌≤◌, ◌<◌, ◌+◌, ◌*◌, ◌^◌, ℕ, List, [], ◌∷◌, length, Bool, true, false}
+use Rattle.std.proofs.Common.{if◌then◌else◌, nat_le, map, refl, arith}
 use Rattle.std.proofs.lemmas.Bool.Decides.{nat_tests}
 use Rattle.cla_spec.specs.Matrix.{Matrix, IsShaped, most_cells}
 use Rattle.cla_grouping.specs.Tuples.{AreColumns}
 use Rattle.cla_grouping.proofs.Numbered.{few-columns}
 use Rattle.cla_grouping.specs.Sizes.{plain_bytes}
 use Rattle.cla_grouping.proofs.SizeLemmas.{times-le}
-use Rattle.cla_grouping.specs.Grouping.{GroupOf, grouping_of, groups_to, in_best_kind, one_plain, bytes_in, or_plain, most_grouped, packed_size}
+use Rattle.cla_grouping.specs.Grouping.{GroupOf, grouping_of, groups_to, in_best_kind, one_plain, bytes_in, or_plain}
+use Rattle.cla_grouping.specs.Grouping.{most_grouped, packed_size}
 
 -- one plain group takes its bytes, and what isn't replaced by it takes fewer
 one_bytes : (rows cols : ℕ) → bytes_in (one_plain rows cols ∷ []) ≤ plain_bytes rows cols

@@ -1,5 +1,6 @@
 -- How the words of a line follow one another.
-use Rattle.std.proofs.Common.{◌≡◌, ℕ, suc, ◌+◌, ◌<◌, ◌≤◌, List, [], ◌∷◌, length, take, drop, map, get_or, Bool, true, false, refl, sym, ap, ◌∙◌, arith, inl, inr, filter}
+use Rattle.std.proofs.Common.{◌≡◌, ℕ, suc, ◌+◌, ◌<◌, ◌≤◌, List, [], ◌∷◌, length, take, drop, map, get_or, Bool, true}
+use Rattle.std.proofs.Common.{false, refl, sym, ap, ◌∙◌, arith, inl, inr, filter}
 use Rattle.std.proofs.lemmas.Bool.{cases_Bool, lt-ltb, false_from_ne_true}
 use Rattle.std.proofs.lemmas.List.{nil_from_length, ext_get_or, get_or-map, length-map}
 use Rattle.std.specs.List.{slice_split, onto_first, prefix_len, position_or_len}

@@ -16,7 +16,8 @@ word_small b h = grind (arith, nat_tests)
 pub text_small : (b : ℕ) → is_text_byte b ≡ true → b < 128
 text_small b h = grind (arith, nat_tests)
 
-pub ascii_prefix : (p : ℕ → Bool) → ((b : ℕ) → p b ≡ true → b < 128) → (bs : List ℕ) → IsAscii (take (prefix_len p bs) bs)
+pub ascii_prefix : (p : ℕ → Bool) → ((b : ℕ) → p b ≡ true → b < 128) → (bs : List ℕ)
+    → IsAscii (take (prefix_len p bs) bs)
 ascii_prefix p small [] = IsAscii-nil
 ascii_prefix p small (b ∷ bs) = elim (cases_Bool (p b)) [
   | inl is ↦ rw (is, one_more) (IsAscii-cons b _ (small b is) (ascii_prefix p small bs))

@@ -1,5 +1,6 @@
 -- What is read from formed tokens is formed.
-use Rattle.std.proofs.Common.{◌≡◌, ◌≢◌, ℕ, ◌+◌, ◌<◌, ◌≤◌, ◌^◌, List, [], ◌∷◌, ◌++◌, length, refl, sym, ap, inl, inr, ◌∙◌, arith}
+use Rattle.std.proofs.Common.{◌≡◌, ◌≢◌, ℕ, ◌+◌, ◌<◌, ◌≤◌, ◌^◌, List, [], ◌∷◌, ◌++◌, length, refl, sym, ap, inl, inr}
+use Rattle.std.proofs.Common.{◌∙◌, arith}
 use Rattle.std.proofs.Common.{Bool, true, false, Option, Some, None, Result, Ok, Err, length-append}
 use Rattle.std.specs.Prelude.{nat_le, nat_lt, ◌==◌, ◌&&◌, not}
 use Rattle.std.proofs.lemmas.Bool.{cases_Bool}
@@ -9,15 +10,20 @@ use Rattle.cla_num.specs.declared.cell_op.CellOp.TheVariants.{Sub, Neg}
 use Rattle.cla_grammar.specs.declared.words.BinOp.{BinOp}
 use Rattle.cla_grammar.specs.declared.words.BinOp.TheVariants.{Cell}
 use Rattle.cla_grammar.specs.declared.words.SaveWord.{SaveWord}
-use Rattle.cla_grammar.specs.Tokens.{Token, Placed, Number, Name, Text, Sign, Assign, Power, Open, Close, Comma, OpenSquare, CloseSquare}
+use Rattle.cla_grammar.specs.Tokens.{Token, Placed, Number, Name, Text, Sign, Assign, Power, Open, Close, Comma}
+use Rattle.cla_grammar.specs.Tokens.{OpenSquare, CloseSquare}
 use Rattle.cla_grammar.specs.Tokens.{Colon, Function, Binder, Read, Print, Save, level}
 use Rattle.cla_grammar.specs.Tree.{Tree, Span, Every, One, Pair, Statement, ReadOf}
 use Rattle.cla_grammar.specs.Tree.{SaveOf}
-use Rattle.cla_grammar.specs.Machine.{Frame, Left, Minus, Paren, Argument, First, Second, Letting, Printing, Saving, level_of, closed}
+use Rattle.cla_grammar.specs.Machine.{Frame, Left, Minus, Paren, Argument, First, Second, Letting, Printing, Saving}
+use Rattle.cla_grammar.specs.Machine.{level_of, closed}
 use Rattle.cla_grammar.specs.Machine.{reduce}
-use Rattle.cla_grammar.specs.Machine.{State, Start, After, Want, WantOpen, Have, InSpan, WantTwo, ReadOpen, ReadText, ReadClose, FileText}
-use Rattle.cla_grammar.specs.Machine.{FileClose, Whole, Dead, Part, Rows, Cols, Seen, Nothing, Once, Parted, Both, start, assign, close}
-use Rattle.cla_grammar.specs.Machine.{next_argument, begin, read, want, have, open_only, if_two, two_only, ended, span_step, read_text}
+use Rattle.cla_grammar.specs.Machine.{State, Start, After, Want, WantOpen, Have, InSpan, WantTwo, ReadOpen, ReadText}
+use Rattle.cla_grammar.specs.Machine.{ReadClose, FileText}
+use Rattle.cla_grammar.specs.Machine.{FileClose, Whole, Dead, Part, Rows, Cols, Seen, Nothing, Once, Parted, Both}
+use Rattle.cla_grammar.specs.Machine.{start, assign, close}
+use Rattle.cla_grammar.specs.Machine.{next_argument, begin, read, want, have, open_only, if_two, two_only, ended}
+use Rattle.cla_grammar.specs.Machine.{span_step, read_text}
 use Rattle.cla_grammar.specs.Machine.{file_text, close_only, step, run, let_end, finish}
 use Rattle.cla_grammar.specs.Faults.{Item, Tok, BadByte, BadText, End, Fault}
 use Rattle.cla_grammar.specs.Reader.{Reading, fresh, waits, is_dead, is_two, is_large, take_token, joined, take_end}
@@ -86,7 +92,8 @@ closed_formed (Letting n) t f h = h
 closed_formed Printing t f h = h
 closed_formed (Saving w p) t f h = h
 
-reduced_formed : (k : ℕ) (s : List Frame) (t : Tree) → IsFormedStack s → IsFormedTree t → IsFormedStack (reduce k s t).stack
+reduced_formed : (k : ℕ) (s : List Frame) (t : Tree) → IsFormedStack s → IsFormedTree t
+    → IsFormedStack (reduce k s t).stack
     × IsFormedTree (reduce k s t).tree
 reduced_formed k [] t s_formed h = (tt, h)
 reduced_formed k (f ∷ s) t s_formed h = elim (cases_Bool (nat_lt (level_of f) k)) [
@@ -146,7 +153,8 @@ want_formed p (Binder f) s h k = (tt, h)
 want_formed p Read s h k = read_formed s h
 want_formed p _ s h k = tt
 
-have_formed : (b : Bool) (p : Place) (k : Token) (s : List Frame) (t : Tree) → IsFormedStack s × IsFormedTree t → IsFormedToken k
+have_formed : (b : Bool) (p : Place) (k : Token) (s : List Frame) (t : Tree) → IsFormedStack s × IsFormedTree t
+    → IsFormedToken k
     → IsFormedState (have b p k s t)
 have_formed b p (Sign o) s t h k = let r = reduced_formed (level o) s t h.0 h.1 in ((k, r.1), r.0)
 have_formed b p Power s t h k = h
@@ -159,7 +167,8 @@ open_formed : (k : Token) (u : State) → IsFormedState u → IsFormedState (ope
 open_formed Open u h = h
 open_formed _ u h = tt
 
-if_two_formed : (n : ℕ) (p : Place) (s : List Frame) (t : Tree) → IsFormedStack s × IsFormedTree t → IsFormedState (if_two n p s t)
+if_two_formed : (n : ℕ) (p : Place) (s : List Frame) (t : Tree) → IsFormedStack s × IsFormedTree t
+    → IsFormedState (if_two n p s t)
 if_two_formed n p s t h = elim (cases_Bool (nat_lt n 2)) [
   | inl low ↦ rw low tt
   | inr some ↦ rw some (elim (cases_Bool (nat_lt 2 n)) [
@@ -168,11 +177,13 @@ if_two_formed n p s t h = elim (cases_Bool (nat_lt n 2)) [
   ])
 ]
 
-two_formed : (k : Token) (p : Place) (s : List Frame) (t : Tree) → IsFormedStack s × IsFormedTree t → IsFormedState (two_only k p s t)
+two_formed : (k : Token) (p : Place) (s : List Frame) (t : Tree) → IsFormedStack s × IsFormedTree t
+    → IsFormedState (two_only k p s t)
 two_formed (Number n) p s t h = if_two_formed n p s t h
 two_formed _ p s t h = tt
 
-ended_formed : (k : Token) (p : Place) (s : List Frame) (t : Tree) (part : Part) (span : Span) → IsFormedStack s × IsFormedTree t
+ended_formed : (k : Token) (p : Place) (s : List Frame) (t : Tree) (part : Part) (span : Span)
+    → IsFormedStack s × IsFormedTree t
     → IsFormedPart part → IsFormedSpan span → IsFormedState (ended k p s t part span)
 ended_formed Comma p s t Rows span h a b = (h, (b, tt))
 ended_formed CloseSquare p s t (Cols rows) span h a b = (h.0, (h.1, (a, b)))
@@ -210,7 +221,8 @@ close_only_formed : (k : Token) (x : Statement) → HasFormedParts x → IsForme
 close_only_formed Close x h = h
 close_only_formed _ x h = tt
 
-step_formed : (bits : ℕ) (u : State) (k : Placed) → IsFormedState u → IsFormedToken k.token → is_large bits u k.token ≡ false
+step_formed : (bits : ℕ) (u : State) (k : Placed) → IsFormedState u → IsFormedToken k.token
+    → is_large bits u k.token ≡ false
     → IsFormedState (step u k)
 step_formed bits Start k h t small = start_formed k.place k.token t
 step_formed bits (After n) k h t small = assign_formed k.token n h
@@ -260,19 +272,22 @@ formed_snoc : (xs : List Statement) (x : Statement) → AllFormed xs → IsForme
 formed_snoc [] x h f = (f, tt)
 formed_snoc (y ∷ ys) x h f = (h.0, formed_snoc ys x h.1 f)
 
-next_formed_reading : (bits : ℕ) (r : Reading) (k : Placed) → IsFormedReading r → IsFormedToken k.token → nat_le 256 r.count ≡ false
+next_formed_reading : (bits : ℕ) (r : Reading) (k : Placed) → IsFormedReading r → IsFormedToken k.token
+    → nat_le 256 r.count ≡ false
     → is_large bits r.state k.token ≡ false
     → IsFormedReading (record { count = r.count + 1; state = step r.state k; statements = r.statements })
 next_formed_reading bits r k h t short small = record {
   done = h.done ++ k ∷ [];
   state = ap (λ (u : State). step u k) h.state ∙ sym (run-append Start h.done (k ∷ []));
-  count = (let e : r.count + 1 ≡ length (h.done ++ k ∷ []) = omega (arith, h.count, length-append h.done (k ∷ [])) in e);
+  count = (let e : r.count + 1 ≡ length (h.done ++ k ∷ []) =
+      omega (arith, h.count, length-append h.done (k ∷ [])) in e);
   few = (let e : r.count + 1 ≤ 256 = grind (arith, nat_tests) in e);
   formed = step_formed bits r.state k h.formed t small;
   statements = h.statements;
 }
 
-token_formed : (bits : ℕ) (r : Reading) (k : Placed) → IsFormedReading r → IsFormedToken k.token → AreFormedResults (take_token bits r k)
+token_formed : (bits : ℕ) (r : Reading) (k : Placed) → IsFormedReading r → IsFormedToken k.token
+    → AreFormedResults (take_token bits r k)
 token_formed bits r k h t = elim (cases_Bool (nat_le 256 r.count)) [
   | inl long ↦ rw long tt
   | inr short ↦ rw short (elim (cases_Bool (waits r.state && not (is_two k.token))) [
@@ -287,7 +302,8 @@ token_formed bits r k h t = elim (cases_Bool (nat_le 256 r.count)) [
   ])
 ]
 
-joined_formed : (r : Reading) (p : Place) (found : Option Statement) → IsFormedReading r → finish r.state ≡ found → IsFormedEnd found
+joined_formed : (r : Reading) (p : Place) (found : Option Statement) → IsFormedReading r → finish r.state ≡ found
+    → IsFormedEnd found
     → AreFormedResults (joined p r.statements found)
 joined_formed r p None h e f = tt
 joined_formed r p (Some x) h e f =
@@ -320,7 +336,8 @@ onward_formed bits (Err f) items h go = tt
 pub items_formed : (bits : ℕ) (items : List Item) (r : Reading) → IsFormedReading r → AreFormedItems items
     → AreFormedResults (take_items bits r items)
 items_formed bits [] r h all = h
-items_formed bits (Tok k ∷ items) r h all = onward_formed bits (take_token bits r k) items (token_formed bits r k h all.0)
+items_formed bits (Tok k ∷ items) r h all =
+    onward_formed bits (take_token bits r k) items (token_formed bits r k h all.0)
     (λ n m. items_formed bits items n m all.1)
 items_formed bits (BadByte p ∷ items) r h all = tt
 items_formed bits (BadText p ∷ items) r h all = tt

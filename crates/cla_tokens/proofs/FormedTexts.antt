@@ -15,7 +15,8 @@ use Rattle.cla_grammar.specs.Tokens.{Token, Number, Name, Text, Sign}
 use Rattle.cla_grammar.specs.Faults.{Item, Tok, BadByte, BadText, End}
 use Rattle.cla_tokens.specs.Words.{words, found_word, word_of, is_same}
 use Rattle.cla_tokens.specs.Pieces as piece
-use Rattle.cla_tokens.specs.Pieces.{Piece, LineEnd, Blank, Semicolon, Found, begins, signs, first_sign, is_blank, is_word_byte}
+use Rattle.cla_tokens.specs.Pieces.{Piece, LineEnd, Blank, Semicolon, Found, begins, signs, first_sign, is_blank}
+use Rattle.cla_tokens.specs.Pieces.{is_word_byte}
 use Rattle.cla_tokens.specs.Pieces.{is_text_byte}
 use Rattle.cla_tokens.specs.Pieces.{text_at, sign_at, piece_at}
 use Rattle.cla_tokens.specs.Items.{items_of, after_first, items_from, line_items, items_of_lines, place_at}
@@ -41,7 +42,8 @@ is_plain _ = true
 plain_formed : (k : Token) → is_plain k ≡ true → IsFormedToken k
 plain_formed (Name n) h = let no : ⊥ = cc in absurd no
 plain_formed (Text f) h = let no : ⊥ = cc in absurd no
-plain_formed (Sign o) h = λ e. (let a : is_plain (Sign o) ≡ false = ap (λ (x : _). is_plain (Sign x)) e in let no : ⊥ = cc in no)
+plain_formed (Sign o) h =
+    λ e. (let a : is_plain (Sign o) ≡ false = ap (λ (x : _). is_plain (Sign x)) e in let no : ⊥ = cc in no)
 plain_formed _ h = tt
 
 abbrev all_plain : List (List ℕ × Token) → Bool
@@ -51,7 +53,8 @@ all_plain (e ∷ rest) = is_plain e.1 && all_plain rest
 abbrev Found_or : List ℕ → Token → Type 0
 Found_or word k = (k ≡ Name word) ⊎ IsFormedToken k
 
-found_formed : (table : List (List ℕ × Token)) (word : List ℕ) → all_plain table ≡ true → Found_or word (found_word table word)
+found_formed : (table : List (List ℕ × Token)) (word : List ℕ) → all_plain table ≡ true
+    → Found_or word (found_word table word)
 found_formed [] word h = inl refl
 found_formed (e ∷ rest) word h =
     let p = and_parts (is_plain e.1) (all_plain rest) h in
@@ -71,7 +74,8 @@ prefix_passes p (b ∷ bs) = elim (cases_Bool (p b)) [
 ]
 
 -- a word's token
-word_formed : (b : ℕ) (w : List ℕ) → is_ascii_alphabetic b ≡ true → AllPass is_word_byte w → IsFormedToken (word_of (b ∷ w))
+word_formed : (b : ℕ) (w : List ℕ) → is_ascii_alphabetic b ≡ true → AllPass is_word_byte w
+    → IsFormedToken (word_of (b ∷ w))
 unfolding word_of
 word_formed b w letter all = elim (found_formed words (b ∷ w) refl) [
   | inl e ↦ subst (λ (k : Token). IsFormedToken k) (sym e) (letter, (all, e))
@@ -82,7 +86,8 @@ abbrev IsFormedPiece : Piece → Type 0
 IsFormedPiece (Found k n) = IsFormedToken k
 IsFormedPiece _ = Unit {0}
 
-first_formed : (table : List (List ℕ × Token)) (bs : List ℕ) → all_plain table ≡ true → IsFormedPiece (first_sign table bs)
+first_formed : (table : List (List ℕ × Token)) (bs : List ℕ) → all_plain table ≡ true
+    → IsFormedPiece (first_sign table bs)
 first_formed [] bs h = tt
 first_formed (e ∷ rest) bs h =
     let p = and_parts (is_plain e.1) (all_plain rest) h in
@@ -95,7 +100,8 @@ sign_formed : (bs : List ℕ) → IsFormedPiece (sign_at bs)
 unfolding sign_at
 sign_formed bs = first_formed signs bs refl
 
-text_is : (bs : List ℕ) (q : Bool) → ((nat_lt 0 (prefix_len is_text_byte bs) && nat_le (prefix_len is_text_byte bs) 255) && q) ≡ true
+text_is : (bs : List ℕ) (q : Bool)
+    → ((nat_lt 0 (prefix_len is_text_byte bs) && nat_le (prefix_len is_text_byte bs) 255) && q) ≡ true
     → IsText (take (prefix_len is_text_byte bs) bs)
 text_is bs q h =
     let sides = and_parts (nat_lt 0 (prefix_len is_text_byte bs)) (nat_le (prefix_len is_text_byte bs) 255)
@@ -142,7 +148,8 @@ piece_formed (b ∷ bs) = elim (cases_Bool (is_blank b)) [
   ])
 ]
 
-added_formed : (p : Piece) (q : Place) (more : List Item) → IsFormedPiece p → AreFormedItems more → AreFormedItems (items_of p q more)
+added_formed : (p : Piece) (q : Place) (more : List Item) → IsFormedPiece p → AreFormedItems more
+    → AreFormedItems (items_of p q more)
 added_formed LineEnd q more h m = tt
 added_formed Blank q more h m = m
 added_formed Semicolon q more h m = m
@@ -170,8 +177,10 @@ lines_formed n (line ∷ lines) =
     (both_formed (items_from n 0 1 line) (End (place_at n (length line + 1)) ∷ []) (from_formed n 0 1 line) tt)
     (lines_formed (n + 1) lines)
 
-read_formed : (res : Result Reading Fault) (xs : List Statement) → AreFormedResults res → statements_read res ≡ Ok xs → AllFormed xs
-read_formed (Ok r) xs h e = let same : r.statements ≡ xs = cc in subst (λ (l : List Statement). AllFormed l) same h.statements
+read_formed : (res : Result Reading Fault) (xs : List Statement) → AreFormedResults res → statements_read res ≡ Ok xs
+    → AllFormed xs
+read_formed (Ok r) xs h e = let same : r.statements ≡ xs =
+    cc in subst (λ (l : List Statement). AllFormed l) same h.statements
 read_formed (Err f) xs h e = let no : ⊥ = cc in absurd no
 
 -- the statements of a text are formed

@@ -25,13 +25,16 @@ not_longer n m h = grind (arith, nat_tests)
 same_len : (n : ℕ) → nat_lt n n ≡ false
 same_len n = grind (arith, nat_tests)
 
-none_longer : (n : ℕ) (bs : List ℕ) (table : List (List ℕ × Token)) → none_above n table ≡ true → begins_longer n bs table ≡ false
+none_longer : (n : ℕ) (bs : List ℕ) (table : List (List ℕ × Token)) → none_above n table ≡ true
+    → begins_longer n bs table ≡ false
 none_longer n bs [] h = refl
 none_longer n bs (s ∷ rest) h =
     let p = and_parts (nat_le (length s.0) n) (none_above n rest) h in
-    neither (begins s.0 bs) (nat_lt n (length s.0)) (begins_longer n bs rest) (not_longer n (length s.0) p.0) (none_longer n bs rest p.1)
+    neither (begins s.0 bs) (nat_lt n (length s.0)) (begins_longer n bs rest) (not_longer n (length s.0) p.0)
+    (none_longer n bs rest p.1)
 
-first_longest : (table : List (List ℕ × Token)) (bs : List ℕ) (k : Token) (n : ℕ) → falls table ≡ true → first_sign table bs ≡ Found k n
+first_longest : (table : List (List ℕ × Token)) (bs : List ℕ) (k : Token) (n : ℕ) → falls table ≡ true
+    → first_sign table bs ≡ Found k n
     → begins_longer n bs table ≡ false
 first_longest [] bs k n h e = let no : ⊥ = cc in absurd no
 first_longest (s ∷ rest) bs k n h e =
@@ -41,7 +44,8 @@ first_longest (s ∷ rest) bs k n h e =
           let found : Found s.1 (length s.0) ≡ Found k n = rw is at e in
           let len : length s.0 ≡ n = cc in
           subst (λ (m : ℕ). begins_longer m bs (s ∷ rest) ≡ false) len
-          (neither (begins s.0 bs) (nat_lt (length s.0) (length s.0)) (begins_longer (length s.0) bs rest) (same_len (length s.0))
+          (neither (begins s.0 bs) (nat_lt (length s.0) (length s.0)) (begins_longer (length s.0) bs rest)
+          (same_len (length s.0))
           (none_longer (length s.0) bs rest p.0))
       | inr other ↦ rw other (first_longest rest bs k n p.1 (rw other at e))
     ]

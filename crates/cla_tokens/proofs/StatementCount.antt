@@ -1,5 +1,6 @@
 -- The statements of a text are at most twice its bytes.
-use Rattle.std.proofs.Common.{◌≡◌, ℕ, zero, suc, ◌+◌, ◌-◌, ◌*◌, ◌<◌, ◌≤◌, List, [], ◌∷◌, ◌++◌, length, take, refl, ap, inl}
+use Rattle.std.proofs.Common.{◌≡◌, ℕ, zero, suc, ◌+◌, ◌-◌, ◌*◌, ◌<◌, ◌≤◌, List, [], ◌∷◌, ◌++◌, length, take, refl, ap}
+use Rattle.std.proofs.Common.{inl}
 use Rattle.std.proofs.Common.{inr, arith}
 use Rattle.std.proofs.Common.{Result, Ok, Err, length-drop, length-take}
 use Rattle.std.proofs.lemmas.Bool.{cases_Bool}
@@ -16,7 +17,8 @@ use Rattle.cla_spec.specs.Lines.{is_lf, without_cr, lines_of, first_line, after_
 use Rattle.cla_spec.proofs.LineLemmas.{lines_of-cons, lines_of-nil}
 use Rattle.cla_tokens.specs.Pieces as piece
 use Rattle.cla_tokens.specs.Pieces.{Piece, LineEnd, Blank, Semicolon, Found, piece_at}
-use Rattle.cla_tokens.specs.Items.{items_of, after_first, items_from, line_items, items_of_lines, items_of_text, place_at}
+use Rattle.cla_tokens.specs.Items.{items_of, after_first, items_from, line_items, items_of_lines, items_of_text}
+use Rattle.cla_tokens.specs.Items.{place_at}
 use Rattle.cla_tokens.specs.Scripts.{script_in, statements_read}
 
 abbrev ends_in : List Item → ℕ
@@ -64,7 +66,8 @@ ends_from line (suc skip) col (b ∷ bs) = omega (arith, ends_from line skip (co
 ends_from line zero col (b ∷ bs) =
     omega (
       arith,
-      one_more_end (piece_at (b ∷ bs)) (place_at line col) (items_from line (after_first (piece_at (b ∷ bs))) (col + 1) bs),
+      one_more_end (piece_at (b ∷ bs)) (place_at line col)
+          (items_from line (after_first (piece_at (b ∷ bs))) (col + 1) bs),
       ends_from line (after_first (piece_at (b ∷ bs))) (col + 1) bs,
     )
 
@@ -86,14 +89,21 @@ ends_lines n (line ∷ lines) =
 
 cr_len : (line : List ℕ) → length (without_cr line) ≤ length line
 cr_len line = elim (cases_Bool (nat_lt 0 (length line) && (slice_index line (length line - 1) == 13))) [
-  | inl is ↦ rw is (let a : length (take (length line - 1) line) ≤ length line = omega (arith, length-take (length line - 1) line) in a)
+  | inl is ↦ rw is
+      (let a : length (take (length line - 1) line) ≤ length line =
+      omega (arith, length-take (length line - 1) line) in a)
   | inr other ↦ rw other (let a : length line ≤ length line = omega arith in a)
 ]
 
 parts_len : (s : List ℕ) → length (first_line s) + length (after_line s) ≤ length s
 unfolding first_line after_line
 parts_len s =
-    omega (arith, cr_len (before_first is_lf s), length-take (position_or_len is_lf s) s, length-drop (position_or_len is_lf s + 1) s)
+    omega (
+      arith,
+      cr_len (before_first is_lf s),
+      length-take (position_or_len is_lf s) s,
+      length-drop (position_or_len is_lf s + 1) s,
+    )
 
 after_len : (s : List ℕ) → 0 < length s → length (after_line s) < length s
 unfolding after_line
@@ -116,11 +126,13 @@ few_read bits items (Ok r) xs a e =
     omega (arith, len, read_len (statements_from [] items) r.statements a.reads, few_ended [] items)
 few_read bits items (Err f) xs a e = let no : ⊥ = cc in absurd no
 
-pub script_few : (bits : ℕ) (text : List ℕ) (xs : List Statement) → script_in bits text ≡ Ok xs → length xs ≤ 2 * length text
+pub script_few : (bits : ℕ) (text : List ℕ) (xs : List Statement) → script_in bits text ≡ Ok xs
+    → length xs ≤ 2 * length text
 script_few bits text xs e =
     omega (
       arith,
-      few_read bits (items_of_text text) (read_script bits (items_of_text text)) xs (script_read bits (items_of_text text)) e,
+      few_read bits (items_of_text text) (read_script bits (items_of_text text)) xs
+          (script_read bits (items_of_text text)) e,
       ends_lines 1 (lines_of text),
       few_lines (length text) text (omega arith),
     )

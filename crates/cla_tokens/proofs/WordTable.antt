@@ -19,7 +19,8 @@ abbrev pub AllApart : List (List ℕ × Token) → List ℕ → Type 0
 AllApart [] word = Unit {0}
 AllApart (e ∷ rest) word = (word ≡ e.0 → ⊥) × AllApart rest word
 
-pub none_found : (table : List (List ℕ × Token)) (word : List ℕ) → AllApart table word → found_word table word ≡ Name word
+pub none_found : (table : List (List ℕ × Token)) (word : List ℕ) → AllApart table word
+    → found_word table word ≡ Name word
 none_found [] word h = refl
 none_found (e ∷ rest) word h = elim (cases_Bool (is_same e.0 word)) [
   | inl is ↦ absurd (h.0 (same_is e.0 word is))

@@ -88,7 +88,8 @@ loop-c-preserved g c =
     ap (λ (z : ℤ). z +ℤ c.times.result) held ∙ ap (λ (z : ℤ). sum_to f c.args.k +ℤ z) term in
     let next : suc c.args.k ≡ c.args.k + 1 = omega arith in
     record {
-      sums = added_here c.args.k (c.args.k + 1) c.loop-c.c part c.args.into.now c.loop-c.into c.index.result.now c.plus.result place
+      sums = added_here c.args.k
+          (c.args.k + 1) c.loop-c.c part c.args.into.now c.loop-c.into c.index.result.now c.plus.result place
           (c.plus.ensures ∙ sum ∙ ap (sum_to f) next) c.loop-c.invariant.sums;
       counts = search rules;
     }

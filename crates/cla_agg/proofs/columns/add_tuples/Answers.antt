@@ -85,7 +85,8 @@ plus-requires g c =
     ∙ ap (λ (z : ℤ). sum_to f c.args.from +ℤ z) c.sum_in_column-sum.ensures.sum
     ∙ sym (sum_to-split f c.args.from c.args.count) in
     subst (FitsSigned w128) (sym sum)
-    (fits_by_size _ (column_size _ _ _ _ c.requires.part.group c.requires.bits c.loop-c.c (c.args.from + c.args.count) col
+    (fits_by_size _
+    (column_size _ _ _ _ c.requires.part.group c.requires.bits c.loop-c.c (c.args.from + c.args.count) col
     c.requires.tuples))
 
 pub loop-c-preserved : goal.loop-c-preserved

@@ -153,10 +153,19 @@ loop-q-preserved g c i there =
     omega (arith, before, c.loop-q.auto.into, c.set_rows.auto.into, c.requires.rows) in
     let found = c.read_group-in-loop-q.new.codes in
     let lt : i < length found =
-    omega (arith, row, c.requires.codes, c.read_group.auto.codes, c.loop-q.auto.codes, c.read_group-in-loop-q.auto.codes) in
+    omega (
+      arith,
+      row,
+      c.requires.codes,
+      c.read_group.auto.codes,
+      c.loop-q.auto.codes,
+      c.read_group-in-loop-q.auto.codes,
+    ) in
     let firsts = map value c.read_group-in-loop-q.new.firsts in
-    let next = group_row_read g.O.Order.before g.N.Number.BITS g.G.Group.columns codes dictionary m q part found firsts i
-    (g.met.G.Group.laws part.group) read c.read_group-in-loop-q.ensures.codes c.read_group-in-loop-q.ensures.firsts row in
+    let next =
+    group_row_read g.O.Order.before g.N.Number.BITS g.G.Group.columns codes dictionary m q part found firsts i
+    (g.met.G.Group.laws part.group) read c.read_group-in-loop-q.ensures.codes c.read_group-in-loop-q.ensures.firsts
+    row in
     subst (IsFirstOfRow g.O.Order.before parts i (q + 1)) (sym (c.join_rows.ensures i lt))
     (row_more g.O.Order.before g.O.Order.choice g.met.O.Order.laws parts i q (at (map value c.loop-q.into) i)
     (at firsts (code_of found i)) (c.loop-q.invariant i before) next)

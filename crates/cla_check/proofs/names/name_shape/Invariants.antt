@@ -5,4 +5,5 @@ use Rattle.cla_check.proofs.names.name_shape.Given as goal
 
 -- what is left decides
 abbrev pub invariant-loop-entry : goal.invariant-loop-entry
-invariant-loop-entry l = latest l.held (names_of (drop l.entry-index l.names)) l.name ≡ name_shape (names_of l.names) l.name
+invariant-loop-entry l =
+    latest l.held (names_of (drop l.entry-index l.names)) l.name ≡ name_shape (names_of l.names) l.name

@@ -3,7 +3,8 @@ use Rattle.cla_script.specs.Reads.{statements_of}
 use Rattle.cla_cli.specs.Statements.{files_read}
 use Rattle.cla_cli.proofs.ReadLaws.{none_read, all_read}
 use Rattle.cla_cli.proofs.EndingLaws.{ending_after}
-use Rattle.cla_cli.proofs.InputsLaws.{next_reads, next_reads_none, none_left, none_yet, one_more, reads_on, reads_itself, table_comes, table_fails, table_is_needed}
+use Rattle.cla_cli.proofs.InputsLaws.{next_reads, next_reads_none, none_left, none_yet, one_more, reads_on}
+use Rattle.cla_cli.proofs.InputsLaws.{reads_itself, table_comes, table_fails, table_is_needed}
 use Rattle.cla_cli.proofs.inputs.read_tables.Goals.{in-Read+in-Ok+in-Ok-push, in_default}
 use Rattle.cla_cli.proofs.inputs.read_tables.Goals as goal
 

@@ -1,4 +1,5 @@
-use Rattle.std.proofs.Common.{◌≡◌, ◌+◌, ◌-◌, ◌≤◌, ◌<◌, [], ◌∷◌, drop, length, length-drop, Ok, Err, refl, sym, ap, subst, ◌∙◌, arith, rules}
+use Rattle.std.proofs.Common.{◌≡◌, ◌+◌, ◌-◌, ◌≤◌, ◌<◌, [], ◌∷◌, drop, length, length-drop, Ok, Err, refl, sym, ap}
+use Rattle.std.proofs.Common.{subst, ◌∙◌, arith, rules}
 use Rattle.std.proofs.lemmas.List.{drop_all, take_all, nil_from_length}
 use Rattle.cla_script.specs.Reads.{statements_of}
 use Rattle.cla_script.specs.View.{tree_of, statement_of}
@@ -9,9 +10,11 @@ use Rattle.cla_cli.specs.Statements.{value_of, work_of, then_prints, with_name, 
 use Rattle.cla_cli.specs.Evaluate.{CountsTo, statement_most}
 use Rattle.cla_cli.specs.Run.{RiseBy, RiseByAtMost}
 use Rattle.cla_cli.specs.Runs.{Runs}
-use Rattle.cla_cli.proofs.RunLaws.{nothing_left, no_memory, nothing_counted, nothing_more, counted_on, counted_last, few_same, few_more, left_at, none_traced, none_worked, one_traced, one_worked}
+use Rattle.cla_cli.proofs.RunLaws.{nothing_left, no_memory, nothing_counted, nothing_more, counted_on, counted_last}
+use Rattle.cla_cli.proofs.RunLaws.{few_same, few_more, left_at, none_traced, none_worked, one_traced, one_worked}
 use Rattle.cla_cli.proofs.statements.run_statements.Goals as goal
-use Rattle.cla_cli.proofs.statements.run_statements.Goals.{in-Read+in_default, in-Read+in-len1-up+else-is_err, in-Print+in-Ok, in-Let-1, in-Write-1, in-Pack-1}
+use Rattle.cla_cli.proofs.statements.run_statements.Goals.{in-Read+in_default, in-Read+in-len1-up+else-is_err}
+use Rattle.cla_cli.proofs.statements.run_statements.Goals.{in-Print+in-Ok, in-Let-1, in-Write-1, in-Pack-1}
 
 pub returns-then-is_err-clause-runs : goal.returns-then-is_err-clause-runs
 returns-then-is_err-clause-runs g c = λ told.

@@ -2,7 +2,8 @@ use Rattle.std.proofs.Common.{map, Global, sym}
 use Rattle.std.specs.Prelude.{string_bytes}
 use Rattle.cla_words.specs.Asked.{asked}
 use Rattle.cla_cli.specs.Run.{written}
-use Rattle.cla_cli.proofs.EndLaws.{usage_ends, words_unread, completes_by, unfinished_ends, unfinished_counts, unfinished_faults, reads_only_needed}
+use Rattle.cla_cli.proofs.EndLaws.{usage_ends, words_unread, completes_by, unfinished_ends, unfinished_counts}
+use Rattle.cla_cli.proofs.EndLaws.{unfinished_faults, reads_only_needed}
 use Rattle.cla_cli.proofs.top.run.Goals as goal
 
 pub returns-in_default-clause-ends : goal.returns-in_default-clause-ends

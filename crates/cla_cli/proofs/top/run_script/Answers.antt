@@ -7,7 +7,8 @@ use Rattle.cla_cli.specs.Outcome.{script_outcome, statements_outcome}
 use Rattle.cla_cli.specs.Statements.{trace_of, script_work}
 use Rattle.cla_cli.specs.Run.{written}
 use Rattle.cla_cli.specs.Parts.{Reaches}
-use Rattle.cla_cli.proofs.EndLaws.{read_ends, statements_done, statements_halt, done_counted, halt_counted, needed_where_told}
+use Rattle.cla_cli.proofs.EndLaws.{read_ends, statements_done, statements_halt, done_counted, halt_counted}
+use Rattle.cla_cli.proofs.EndLaws.{needed_where_told}
 use Rattle.cla_cli.proofs.InputsLaws.{reached_as}
 use Rattle.cla_cli.proofs.top.run_script.Goals as goal
 

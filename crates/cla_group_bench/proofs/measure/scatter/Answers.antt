@@ -11,4 +11,5 @@ scatter-requires-clause-fits g c = λ i there.
     let row : i < length (any_codes group) = omega (arith, here, c.in_ok-into.ensures.count, c.rows.ensures) in
     let k = code_of (any_codes group) i in
     let tuple : k < c.tuples.result = omega (arith, is.in_tuples i row, c.tuples.ensures) in
-    rw (c.deref_mut.ensures.value, c.deref.ensures.value, c.in_ok-into.ensures.zeros i) (c.in_ok-parts.ensures.fits k tuple)
+    rw (c.deref_mut.ensures.value, c.deref.ensures.value, c.in_ok-into.ensures.zeros i)
+    (c.in_ok-parts.ensures.fits k tuple)

@@ -4,7 +4,8 @@ use Rattle.cla_io.specs.declared.stop.InFault.{InFault}
 use Rattle.cla_io.specs.Lines.{TakesLineWhereTold, CountsLine, ahead_of}
 use Rattle.cla_mtx.specs.Reading.{ReadsTextWhereTold}
 use Rattle.cla_mtx.specs.Phases.{LeftDecides}
-use Rattle.cla_mtx.proofs.ReadingLaws.{begins, goes_on, stops, ends, too_long, counted, counted_at_end, line_at, end_at, later}
+use Rattle.cla_mtx.proofs.ReadingLaws.{begins, goes_on, stops, ends, too_long, counted, counted_at_end, line_at}
+use Rattle.cla_mtx.proofs.ReadingLaws.{end_at, later}
 use Rattle.cla_mtx.proofs.reader.read_mtx.Goals as goal
 
 pub lines-init : goal.lines-init

@@ -100,11 +100,13 @@ returns c = λ codes lists.
       | then-rest-tuples w ↦
           let unlisted = c.args.rows - w.len.result in
           let left : unlisted ≡ c.args.rows - length c.args.lists.now.places.items = omega (arith, w.len.ensures) in
-          let apart = counted_all codes c.args.rows c.args.tuples c.args.rest c.args.first_unlisted _ _ counts first_rows
+          let apart =
+          counted_all codes c.args.rows c.args.tuples c.args.rest c.args.first_unlisted _ _ counts first_rows
           lists a_count a_row counted unlisted w.if-rest-tuples.true left in
           rw (w.counts-is, w.first_rows-is)
           (apart_put codes c.args.tuples c.args.rest counts first_rows unlisted c.args.first_unlisted
           w.if-rest-tuples.true apart)
       | else-rest-tuples w ↦ rw (w.counts-is, w.first_rows-is)
-          (counted_without codes c.args.tuples c.args.rest counts first_rows w.if-rest-tuples.false a_count a_row counted)
+          (counted_without codes c.args.tuples c.args.rest counts first_rows w.if-rest-tuples.false a_count a_row
+          counted)
     ])

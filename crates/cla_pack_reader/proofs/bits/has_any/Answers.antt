@@ -34,7 +34,8 @@ loop-place-preserved c = record {
         let item : 64 * place + k ≡ i = omega (arith, here, far) in
         let bit = c.bits_between.ensures k small
         ∙ inside c.args.begin c.args.end (64 * place + k) (omega (arith, ge, item)) (omega (arith, lt, item)) in
-        let none = c.shares_bit.ensures.none c.if-shares_bit.false k (eqb-true (bit_at c.bits_between.result k) 1 bit) in
+        let none =
+        c.shares_bit.ensures.none c.if-shares_bit.false k (eqb-true (bit_at c.bits_between.result k) 1 bit) in
         let word : i / 64 ≡ place = omega (arith, here, far) in
         ap (λ (w : ℕ). bit_at (get_or words w 0) k == 1) word ∙ ap (λ (b : ℕ). b == 1) none
   ];

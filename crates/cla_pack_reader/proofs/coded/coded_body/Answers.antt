@@ -4,7 +4,8 @@ use Rattle.cla_packed.specs.Bodies.{coded_at}
 use Rattle.cla_packed.specs.Codes.{codes_at}
 use Rattle.cla_pack_reader.specs.Places.{places_of, Took, Refused}
 use Rattle.cla_pack_reader.proofs.Steps.{follows}
-use Rattle.cla_pack_reader.proofs.CodedLaws.{tuples_in, whole_in, with_codes, coded_count, coded_tuples, coded_codes, coded_took}
+use Rattle.cla_pack_reader.proofs.CodedLaws.{tuples_in, whole_in, with_codes, coded_count, coded_tuples, coded_codes}
+use Rattle.cla_pack_reader.proofs.CodedLaws.{coded_took}
 use Rattle.cla_pack_reader.proofs.coded.coded_body.Goals as goal
 
 pub returns-in-Err-clause-exact : goal.returns-in-Err-clause-exact

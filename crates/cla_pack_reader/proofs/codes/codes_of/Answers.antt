@@ -5,7 +5,8 @@ use Rattle.cla_packed.specs.Fields.{field_at}
 use Rattle.cla_packed_laws.proofs.Codes.{one_more, AreThoseBelow}
 use Rattle.cla_pack_reader.specs.Places.{places_of}
 use Rattle.cla_pack_reader.specs.Seen.{fits_seen, seen_with}
-use Rattle.cla_pack_reader.proofs.CodeLaws.{none_different, none_seen, took_same, refused_same, last_row, seen_test, seen_more, seen_max}
+use Rattle.cla_pack_reader.proofs.CodeLaws.{none_different, none_seen, took_same, refused_same, last_row, seen_test}
+use Rattle.cla_pack_reader.proofs.CodeLaws.{seen_more, seen_max}
 use Rattle.cla_pack_reader.proofs.Steps.{follows, decides_none, decides_more, took_list, refused_list, Decides}
 use Rattle.cla_pack_reader.proofs.codes.codes_of.Goals as goal
 

@@ -21,7 +21,8 @@ pub returns-in-Err-clause-exact : goal.returns-in-Err-clause-exact
 returns-in-Err-clause-exact g c taken count =
     let b = places_of c.args.input.now.taken (g.F.Files.state c.args.input.now.files.now) in
     let most = c.args.cols - c.args.count - c.args.left in
-    refused_same 4 c.args.group Width (within c.least_width-least.result most) (fits_width c.args.cols taken c.args.left)
+    refused_same 4 c.args.group Width (within c.least_width-least.result most)
+    (fits_width c.args.cols taken c.args.left)
     b
     c.in-Err.fault (width_bounds c.args.cols c.args.count c.args.left c.least_width-least.result taken count
     c.least_width-least.ensures.exact c.requires.room) c.in-Err.ensures.exact

@@ -1,4 +1,5 @@
-use Rattle.std.proofs.Common.{rules, ◌≡◌, ℕ, ◌+◌, ◌-◌, ◌++◌, ◌∷◌, Bool, false, List, [], length, refl, sym, ap, subst, ◌∙◌}
+use Rattle.std.proofs.Common.{rules, ◌≡◌, ℕ, ◌+◌, ◌-◌, ◌++◌, ◌∷◌, Bool, false, List, [], length, refl, sym, ap, subst}
+use Rattle.std.proofs.Common.{◌∙◌}
 use Rattle.std.proofs.lemmas.List.{length_push, length-replicate}
 use Rattle.cla_packed.specs.Runs.{runs_at}
 use Rattle.cla_runs.specs.declared.run_list.KeyedRun.{KeyedRun}
@@ -71,7 +72,8 @@ loop-t-preserved g c =
       size = c.run_list_of.ensures.size ∙ size;
       so_far = (
         all,
-        subst (λ (k : ℕ). AreRunsSoFar k all c.run_list_of.new.marks c.run_list_of.new.runs.items c.in-Ok-run_list_of.next) size
+        subst (λ (k : ℕ). AreRunsSoFar k all c.run_list_of.new.marks c.run_list_of.new.runs.items
+            c.in-Ok-run_list_of.next) size
             good.2,
         length_push lists.0 good.0 ∙ ap (λ (k : ℕ). k + 1) lists.2,
         decides_more b m r step d c.loop-t.t (d - 1 - c.loop-t.t) lists.0 good.0 c.loop-t-test.true refl lists.3 one,

@@ -1,11 +1,13 @@
-use Rattle.std.proofs.Common.{rules, ◌≡◌, ◌+◌, ◌-◌, ◌*◌, ◌∷◌, ◌++◌, ℕ, ℤ, List, [], length, map, refl, sym, ap, subst, ◌∙◌, arith}
+use Rattle.std.proofs.Common.{rules, ◌≡◌, ◌+◌, ◌-◌, ◌*◌, ◌∷◌, ◌++◌, ℕ, ℤ, List, [], length, map, refl, sym, ap, subst}
+use Rattle.std.proofs.Common.{◌∙◌, arith}
 use Rattle.std.proofs.lemmas.List.{length-map}
 use Rattle.cla_layout.specs.Tuples.{tuples_of}
 use Rattle.cla_packed.specs.Fields.{list_at}
 use Rattle.cla_packed.specs.Files.{any_tuple, own_codes}
 use Rattle.cla_packed.specs.Values.{tuple_at, tuples_at}
 use Rattle.cla_pack_reader.specs.Places.{places_of, Took}
-use Rattle.cla_pack_reader.proofs.Steps.{follows, decides_none, decides_more, took_list, refused_list, Decides, took_view, refused_view}
+use Rattle.cla_pack_reader.proofs.Steps.{follows, decides_none, decides_more, took_list, refused_list, Decides}
+use Rattle.cla_pack_reader.proofs.Steps.{took_view, refused_view}
 use Rattle.cla_pack_reader.proofs.TupleLaws.{tuples_more}
 use Rattle.cla_pack_reader.proofs.plain.plain_values.Goals as goal
 

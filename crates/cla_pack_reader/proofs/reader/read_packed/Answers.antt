@@ -4,7 +4,8 @@ use Rattle.cla_io.specs.State.{left}
 use Rattle.cla_packed.specs.Files.{PackedLayout}
 use Rattle.cla_pack_reader.specs.Kept.{group_kept}
 use Rattle.cla_pack_reader.specs.Reading.{IsEncodingWhereTold}
-use Rattle.cla_pack_reader.proofs.FileLaws.{no_header, no_groups_read, layout_from, file_good, file_gives, file_length, encodes_told}
+use Rattle.cla_pack_reader.proofs.FileLaws.{no_header, no_groups_read, layout_from, file_good, file_gives}
+use Rattle.cla_pack_reader.proofs.FileLaws.{file_length, encodes_told}
 use Rattle.cla_pack_reader.proofs.KeptLaws.{table_canonical, table_encoded, table_length}
 use Rattle.cla_pack_reader.proofs.Steps.{follows}
 use Rattle.cla_pack_reader.proofs.reader.read_packed.Goals as goal

@@ -4,7 +4,8 @@ use Rattle.cla_packed.specs.Fields.{field_at}
 use Rattle.cla_packed.specs.Runs.{end_of}
 use Rattle.cla_pack_reader.specs.Places.{places_of, Took, Refused}
 use Rattle.cla_pack_reader.specs.Runs.{fits_rows}
-use Rattle.cla_pack_reader.proofs.RunLaws.{gap_over, gap_is, gap_ends, gap_refused, gap_apart, named_behind, length_refused, run_reads}
+use Rattle.cla_pack_reader.proofs.RunLaws.{gap_over, gap_is, gap_ends, gap_refused, gap_apart, named_behind}
+use Rattle.cla_pack_reader.proofs.RunLaws.{length_refused, run_reads}
 use Rattle.cla_pack_reader.proofs.Steps.{follows, offset_is}
 use Rattle.cla_pack_reader.proofs.run.run_of.Goals as goal
 

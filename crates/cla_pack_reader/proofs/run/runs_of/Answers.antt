@@ -65,7 +65,8 @@ loop-r-preserved g c = record {
       let one = subst (λ (k : ℕ). Took m r (run_at k c.args.group earlier runs.0) good.0) same good.1 in
       let pushed = run_pushed c.args.t earlier runs.0 c.loop-r.marks c.loop-r.walk c.args.floor runs.1 good.0
       c.in-Ok.run' good.2 order c.put_all.new.self c.put_all.ensures.size c.put_all.ensures.marks in
-      let kept = run_is_kept c.args.t earlier runs.0 c.loop-r.marks c.loop-r.walk c.args.floor runs.1 good.0 c.in-Ok.run'
+      let kept =
+      run_is_kept c.args.t earlier runs.0 c.loop-r.marks c.loop-r.walk c.args.floor runs.1 good.0 c.in-Ok.run'
       good.2 order rows c.loop-r.runs.items (sym is) (omega (arith, c.in-Ok.ensures.within, same)) runs.2 in (
         runs.0 ++ good.0 ∷ [],
         subst (λ (w : Walk). IsRunState earlier (runs.0 ++ good.0 ∷ []) c.put_all.new.self w c.args.floor)

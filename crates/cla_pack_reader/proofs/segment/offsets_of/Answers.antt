@@ -1,4 +1,5 @@
-use Rattle.std.proofs.Common.{rules, ℕ, ◌+◌, ◌-◌, ◌++◌, ◌∷◌, Bool, true, List, [], length, refl, sym, ap, subst, ◌∙◌, append_assoc, append-nil}
+use Rattle.std.proofs.Common.{rules, ℕ, ◌+◌, ◌-◌, ◌++◌, ◌∷◌, Bool, true, List, [], length, refl, sym, ap, subst, ◌∙◌}
+use Rattle.std.proofs.Common.{append_assoc, append-nil}
 use Rattle.std.proofs.lemmas.List.{length-set}
 use Rattle.cla_packed.specs.Offsets.{row_at, joined, segment_rows}
 use Rattle.cla_pack_reader.specs.declared.walk.Walk.{Walk}

@@ -76,7 +76,8 @@ loop-s-preserved-then-begin-end c =
     let read : c.index_mut.result.now ≡ code_of counts k =
     get_or_read counts k c.index_mut.result.now (omega (arith, below at, (so_far at).a_count_each))
     c.index_mut.ensures.value 0 in
-    let counted = stretch_counted codes c.args.tuples counts first_rows k a b c.if-begin-end.true (stretch at) (below at)
+    let counted =
+    stretch_counted codes c.args.tuples counts first_rows k a b c.if-begin-end.true (stretch at) (below at)
     (so_far at) in
     record {
       counted = rw read (subst (λ (row : ℕ). AreCountedFrom row codes c.args.tuples

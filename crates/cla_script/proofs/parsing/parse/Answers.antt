@@ -21,11 +21,14 @@ returns-in-Err g c =
     let some : 0 < length c.lines.rest.now = omega (arith, apart) in
     let value = g.N.Number.value in
     let bits = g.N.Number.BITS in
-    let stopped = stops_all value bits (reading_of value c.lines.reader) (line_items c.lines.number c.cut_line.result.0.now)
-    (items_of_lines (c.lines.number + 1) (lines_of c.cut_line.result.1.now)) (read_script bits (items_of_text c.args.text.now))
+    let stopped =
+    stops_all value bits (reading_of value c.lines.reader) (line_items c.lines.number c.cut_line.result.0.now)
+    (items_of_lines (c.lines.number + 1) (lines_of c.cut_line.result.1.now))
+    (read_script bits (items_of_text c.args.text.now))
     c.in-Err.fault
     (c.lines.invariant.1 ∙ ap (λ (l : List Item). take_items bits (reading_of value c.lines.reader) l)
-    (next_line c.lines.number c.lines.rest.now c.cut_line.result.0.now c.cut_line.result.1.now some c.cut_line.ensures.front
+    (next_line c.lines.number c.lines.rest.now c.cut_line.result.0.now c.cut_line.result.1.now some
+    c.cut_line.ensures.front
     c.cut_line.ensures.back))
     c.in-Err.ensures in
     record {
@@ -52,7 +55,8 @@ lines-preserved g c =
       omega (arith, same, shorter c.lines.rest.now some, c.lines.invariant.0),
       c.lines.invariant.1
           ∙ (ap (λ (l : List Item). take_items bits (reading_of value c.lines.reader) l)
-          (next_line c.lines.number c.lines.rest.now c.cut_line.result.0.now c.cut_line.result.1.now some c.cut_line.ensures.front
+          (next_line c.lines.number c.lines.rest.now c.cut_line.result.0.now c.cut_line.result.1.now some
+          c.cut_line.ensures.front
           c.cut_line.ensures.back)
           ∙ goes_all bits (reading_of value c.lines.reader) (reading_of value c.in-Ok.reader)
           (line_items c.lines.number c.cut_line.result.0.now)
@@ -66,11 +70,14 @@ returns g c =
     let bits = g.N.Number.BITS in
     let text = c.args.text.now in
     let xs = statements_of value c.lines.reader.statements.items in
-    let taken = λ (ls : List (List ℕ)). take_items bits (reading_of value c.lines.reader) (items_of_lines c.lines.number ls) in
+    let taken =
+    λ (ls : List (List ℕ)). take_items bits (reading_of value c.lines.reader)
+    (items_of_lines c.lines.number ls) in
     let read : read_script bits (items_of_text text) ≡ Ok (reading_of value c.lines.reader) =
     c.lines.invariant.1 ∙ (ap (λ (l : List ℕ). taken (lines_of l)) empty ∙ ap taken lines_of-nil) in
     let script : script_in bits text ≡ Ok xs = ap statements_read read in
-    let count : length xs ≡ length c.lines.reader.statements.items = length-map c.lines.reader.statements.items (statement_of value) in
+    let count : length xs ≡ length c.lines.reader.statements.items =
+    length-map c.lines.reader.statements.items (statement_of value) in
     record {
       answer = finished bits (items_of_text text) (reading_of value c.lines.reader) read;
       computed = script;

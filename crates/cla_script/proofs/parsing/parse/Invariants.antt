@@ -8,7 +8,8 @@ use Rattle.cla_script.proofs.parsing.parse.Given as goal
 abbrev pub invariant-lines : goal.invariant-lines
 invariant-lines g l =
     (l.number + length l.rest ≤ 2 ^ 20 + 1)
-    × (read_script g.N.Number.BITS (items_of_text l.text) ≡ take_items g.N.Number.BITS (reading_of g.N.Number.value l.reader)
+    × (read_script g.N.Number.BITS (items_of_text l.text) ≡ take_items g.N.Number.BITS
+    (reading_of g.N.Number.value l.reader)
     (items_of_lines l.number (lines_of l.rest)))
 
 abbrev pub decreases-lines : goal.decreases-lines

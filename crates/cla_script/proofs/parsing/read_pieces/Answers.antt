@@ -12,7 +12,8 @@ use Rattle.cla_script.proofs.parsing.read_pieces.Goals as goal
 pub returns-in-LineEnd : goal.returns-in-LineEnd
 returns-in-LineEnd g c = c.pieces.invariant.1
     ∙ ap (λ (l : List Item). take_items g.N.Number.BITS (reading_of g.N.Number.value c.pieces.reader) l)
-    (cut LineEnd c.args.number 1 c.pieces.at c.args.line.now _ (whole_rest c.args.line.now c.pieces.at) (omega arith) refl
+    (cut LineEnd c.args.number 1 c.pieces.at c.args.line.now _ (whole_rest c.args.line.now c.pieces.at)
+    (omega arith) refl
     (omega arith) c.in-LineEnd.ensures.value)
 
 pub pieces-preserved-in-Blank : goal.pieces-preserved-in-Blank
@@ -20,7 +21,8 @@ pieces-preserved-in-Blank g c = (
   omega arith,
   c.pieces.invariant.1
       ∙ ap (λ (l : List Item). take_items g.N.Number.BITS (reading_of g.N.Number.value c.pieces.reader) l)
-      (cut Blank c.args.number 1 c.pieces.at c.args.line.now _ (whole_rest c.args.line.now c.pieces.at) (omega arith) refl
+      (cut Blank c.args.number 1 c.pieces.at c.args.line.now _ (whole_rest c.args.line.now c.pieces.at)
+      (omega arith) refl
       (omega arith) c.in-Blank.ensures.value),
 )
 
@@ -28,14 +30,16 @@ pub returns-in-BadByte : goal.returns-in-BadByte
 returns-in-BadByte g c =
     rw c.at.ensures (c.pieces.invariant.1
     ∙ ap (λ (l : List Item). take_items g.N.Number.BITS (reading_of g.N.Number.value c.pieces.reader) l)
-    (cut BadByte c.args.number 1 c.pieces.at c.args.line.now _ (whole_rest c.args.line.now c.pieces.at) (omega arith) refl
+    (cut BadByte c.args.number 1 c.pieces.at c.args.line.now _ (whole_rest c.args.line.now c.pieces.at)
+    (omega arith) refl
     (omega arith) c.in-BadByte.ensures.value))
 
 pub returns-in-BadText : goal.returns-in-BadText
 returns-in-BadText g c =
     rw c.at-in-BadText.ensures (c.pieces.invariant.1
     ∙ ap (λ (l : List Item). take_items g.N.Number.BITS (reading_of g.N.Number.value c.pieces.reader) l)
-    (cut BadText c.args.number 1 c.pieces.at c.args.line.now _ (whole_rest c.args.line.now c.pieces.at) (omega arith) refl
+    (cut BadText c.args.number 1 c.pieces.at c.args.line.now _ (whole_rest c.args.line.now c.pieces.at)
+    (omega arith) refl
     (omega arith) c.in-BadText.ensures.value))
 
 pub pieces-preserved-in-Semicolon : goal.pieces-preserved-in-Semicolon
@@ -43,7 +47,8 @@ pieces-preserved-in-Semicolon g c = (
   omega arith,
   c.pieces.invariant.1
       ∙ (ap (λ (l : List Item). take_items g.N.Number.BITS (reading_of g.N.Number.value c.pieces.reader) l)
-      (cut Semicolon c.args.number 1 c.pieces.at c.args.line.now _ (whole_rest c.args.line.now c.pieces.at) (omega arith) refl
+      (cut Semicolon c.args.number 1 c.pieces.at c.args.line.now _ (whole_rest c.args.line.now c.pieces.at)
+      (omega arith) refl
       (omega arith) c.in-Semicolon.ensures.value)
       ∙ goes g.N.Number.BITS (reading_of g.N.Number.value c.pieces.reader) (reading_of g.N.Number.value c.in-Ok.reader)
       (End (place_at c.args.number (c.pieces.at + 1)))
@@ -53,15 +58,19 @@ pieces-preserved-in-Semicolon g c = (
 pub pieces-preserved : goal.pieces-preserved
 pieces-preserved g c =
     let w = rw whole_rest at c.in-Found.ensures.within in
-    let fits : c.pieces.at + c.in-Found.len ≤ length c.args.line.now = omega (arith, w, length-drop c.pieces.at c.args.line.now) in (
+    let fits : c.pieces.at + c.in-Found.len ≤ length c.args.line.now =
+    omega (arith, w, length-drop c.pieces.at c.args.line.now) in (
       fits,
       c.pieces.invariant.1
           ∙ (ap (λ (l : List Item). take_items g.N.Number.BITS (reading_of g.N.Number.value c.pieces.reader) l)
-          (cut (Found (kind_of c.in-Found.kind) c.in-Found.len) c.args.number c.in-Found.len c.pieces.at c.args.line.now _
+          (cut (Found (kind_of c.in-Found.kind) c.in-Found.len) c.args.number c.in-Found.len c.pieces.at
+          c.args.line.now _
           (whole_rest c.args.line.now c.pieces.at) (omega arith) (omega (arith, w)) fits c.in-Found.ensures.value)
-          ∙ goes g.N.Number.BITS (reading_of g.N.Number.value c.pieces.reader) (reading_of g.N.Number.value c.in-Ok-take.reader)
+          ∙ goes g.N.Number.BITS (reading_of g.N.Number.value c.pieces.reader)
+          (reading_of g.N.Number.value c.in-Ok-take.reader)
           (Tok (at (place_at c.args.number (c.pieces.at + 1)) (kind_of c.in-Found.kind)))
-          (items_from c.args.number 0 (c.pieces.at + c.in-Found.len + 1) (drop (c.pieces.at + c.in-Found.len) c.args.line.now))
+          (items_from c.args.number 0 (c.pieces.at + c.in-Found.len + 1)
+          (drop (c.pieces.at + c.in-Found.len) c.args.line.now))
           c.in-Ok-take.ensures),
     )
 
@@ -69,22 +78,29 @@ pub returns-in-Err : goal.returns-in-Err
 returns-in-Err g c = stops g.N.Number.value g.N.Number.BITS (reading_of g.N.Number.value c.pieces.reader)
     (End (place_at c.args.number (c.pieces.at + 1)))
     (items_from c.args.number 0 (c.pieces.at + 1 + 1) (drop (c.pieces.at + 1) c.args.line.now))
-    (take_items g.N.Number.BITS (reading_of g.N.Number.value c.args.reader) (items_from c.args.number 0 1 c.args.line.now)) c.in-Err.fault
-    (c.pieces.invariant.1 ∙ ap (λ (l : List Item). take_items g.N.Number.BITS (reading_of g.N.Number.value c.pieces.reader) l)
-    (cut Semicolon c.args.number 1 c.pieces.at c.args.line.now _ (whole_rest c.args.line.now c.pieces.at) (omega arith) refl
+    (take_items g.N.Number.BITS (reading_of g.N.Number.value c.args.reader)
+    (items_from c.args.number 0 1 c.args.line.now)) c.in-Err.fault
+    (c.pieces.invariant.1
+    ∙ ap (λ (l : List Item). take_items g.N.Number.BITS (reading_of g.N.Number.value c.pieces.reader) l)
+    (cut Semicolon c.args.number 1 c.pieces.at c.args.line.now _ (whole_rest c.args.line.now c.pieces.at)
+    (omega arith) refl
     (omega arith) c.in-Semicolon.ensures.value))
     c.in-Err.ensures
 
 pub returns-in-Err-take : goal.returns-in-Err-take
 returns-in-Err-take g c =
     let w = rw whole_rest at c.in-Found.ensures.within in
-    let fits : c.pieces.at + c.in-Found.len ≤ length c.args.line.now = omega (arith, w, length-drop c.pieces.at c.args.line.now) in
+    let fits : c.pieces.at + c.in-Found.len ≤ length c.args.line.now =
+    omega (arith, w, length-drop c.pieces.at c.args.line.now) in
     stops g.N.Number.value g.N.Number.BITS (reading_of g.N.Number.value c.pieces.reader)
     (Tok (at (place_at c.args.number (c.pieces.at + 1)) (kind_of c.in-Found.kind)))
-    (items_from c.args.number 0 (c.pieces.at + c.in-Found.len + 1) (drop (c.pieces.at + c.in-Found.len) c.args.line.now))
-    (take_items g.N.Number.BITS (reading_of g.N.Number.value c.args.reader) (items_from c.args.number 0 1 c.args.line.now))
+    (items_from c.args.number 0 (c.pieces.at + c.in-Found.len + 1)
+    (drop (c.pieces.at + c.in-Found.len) c.args.line.now))
+    (take_items g.N.Number.BITS (reading_of g.N.Number.value c.args.reader)
+    (items_from c.args.number 0 1 c.args.line.now))
     c.in-Err-take.fault
-    (c.pieces.invariant.1 ∙ ap (λ (l : List Item). take_items g.N.Number.BITS (reading_of g.N.Number.value c.pieces.reader) l)
+    (c.pieces.invariant.1
+    ∙ ap (λ (l : List Item). take_items g.N.Number.BITS (reading_of g.N.Number.value c.pieces.reader) l)
     (cut (Found (kind_of c.in-Found.kind) c.in-Found.len) c.args.number c.in-Found.len c.pieces.at c.args.line.now _
     (whole_rest c.args.line.now c.pieces.at) (omega arith) (omega (arith, w)) fits c.in-Found.ensures.value))
     c.in-Err-take.ensures

@@ -7,7 +7,8 @@ use Rattle.cla_script.proofs.parsing.read_pieces.Given as goal
 abbrev pub invariant-pieces : goal.invariant-pieces
 invariant-pieces g l =
     (l.at ≤ length l.line)
-    × (take_items g.N.Number.BITS (reading_of g.N.Number.value l.fn.reader) (items_from l.number 0 1 l.line) ≡ take_items g.N.Number.BITS
+    × (take_items g.N.Number.BITS (reading_of g.N.Number.value l.fn.reader)
+    (items_from l.number 0 1 l.line) ≡ take_items g.N.Number.BITS
     (reading_of g.N.Number.value l.reader) (items_from l.number 0 (l.at + 1) (drop l.at l.line)))
 
 abbrev pub decreases-pieces : goal.decreases-pieces

@@ -15,4 +15,5 @@ returns-clause-tuples g c = c.in_ok-coded.ensures c.args.m.now c.args.column
     (ap (map g.N.Number.value) c.deref.ensures.value ∙ c.in_ok-items.ensures)
 
 pub returns-clause-shape : goal.returns-clause-shape
-returns-clause-shape g c = shaped g.N.Number.value c.args.m.now c.cells.result.now c.cells.ensures.cells c.cells.ensures.shape
+returns-clause-shape g c =
+    shaped g.N.Number.value c.args.m.now c.cells.result.now c.cells.ensures.cells c.cells.ensures.shape

@@ -10,7 +10,8 @@ pub returns-then-b-i : goal.returns-then-b-i
 returns-then-b-i c =
     let a = c.args.a.now in
     let b = c.args.b.now in
-    found_at (λ i. code_of a i == c.args.first && code_of b i == c.args.second) c.args.codes.now c.loop-i.i c.loop-i-test.true c.loop-i.invariant.before
+    found_at (λ i. code_of a i == c.args.first && code_of b i == c.args.second) c.args.codes.now c.loop-i.i
+    c.loop-i-test.true c.loop-i.invariant.before
     (both (code_of a c.loop-i.i) (code_of b c.loop-i.i) c.args.first c.args.second c.if-a-i.true c.if-b-i.true)
 
 pub returns : goal.returns

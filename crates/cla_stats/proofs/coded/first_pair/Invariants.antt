@@ -4,4 +4,5 @@ use Rattle.cla_stats.proofs.coded.first_pair.Given as goal
 
 -- no row before has both
 abbrev pub invariant-loop-i : goal.invariant-loop-i
-invariant-loop-i l = record { before : (j : ℕ) → j < l.i → (code_of l.a j == l.first && code_of l.b j == l.second) ≡ false }
+invariant-loop-i l =
+    record { before : (j : ℕ) → j < l.i → (code_of l.a j == l.first && code_of l.b j == l.second) ≡ false }

@@ -23,7 +23,13 @@ returns-clause-are c =
     let same = same_pair xs c.deref-2.result.now in
     let rows : length xs ≡ length a.codes.items = ap length c.deref.ensures.value in
     let zeros = λ (i : ℕ). is_rest a.zero (code_of a.codes.items i) && is_rest b.zero (code_of b.codes.items i) in
-    let made = tuples-made _ (tuples_by (a.width + b.width) same zeros (length xs)) refl c.in_ok-codes.ensures.distinct c.in_ok-codes.ensures.codes
+    let made =
+    tuples-made _
+    (tuples_by (a.width + b.width) same zeros (length xs)) refl c.in_ok-codes.ensures.distinct
+    c.in_ok-codes.ensures.codes
     (c.joined_zero-zero.ensures ∙ ap (code_where zeros) (c.deref-3.ensures.value ∙ c.in_ok-codes.ensures.codes)) in
-    let few : length xs * (a.width + b.width) ≤ most_cells = subst (λ n. n * (a.width + b.width) ≤ most_cells) (sym rows) c.requires.pair.few_cells in
-    subst AreTuples (sym made) (tuples_by-are (a.width + b.width) (length xs) same zeros (omega (arith, rows, c.requires.first.a_row)) (omega (arith, c.requires.first.a_column)) few)
+    let few : length xs * (a.width + b.width) ≤ most_cells =
+    subst (λ n. n * (a.width + b.width) ≤ most_cells) (sym rows) c.requires.pair.few_cells in
+    subst AreTuples (sym made)
+    (tuples_by-are (a.width + b.width) (length xs) same zeros (omega (arith, rows, c.requires.first.a_row))
+    (omega (arith, c.requires.first.a_column)) few)

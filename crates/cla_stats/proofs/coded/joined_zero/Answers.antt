@@ -20,7 +20,8 @@ returns-in-Some-Some c =
     let first = c.in-Some-Some.first in
     let second = c.in-Some-Some.second in
     c.first_pair.ensures
-    ∙ ap (λ xs. code_where (test (Some first) (Some second) xs c.deref-in-Some-Some.result.now) codes) c.deref.ensures.value
+    ∙ ap (λ xs. code_where (test (Some first) (Some second) xs c.deref-in-Some-Some.result.now) codes)
+    c.deref.ensures.value
     ∙ ap (λ ys. code_where (test (Some first) (Some second) a ys) codes) c.deref-in-Some-Some.ensures.value
     ∙ ap (λ x. code_where (test x (Some second) a b) codes) (sym c.in-Some-Some.is-0)
     ∙ ap (λ y. code_where (test c.args.a.now.zero y a b) codes) (sym c.in-Some-Some.is-1)
@@ -30,7 +31,8 @@ returns-in_default c =
     let a = c.args.a.now.codes.items in
     let b = c.args.b.now.codes.items in
     found_none (test c.args.a.now.zero c.args.b.now.zero a b) c.args.codes.now
-    (λ j there. and_false (is_rest c.args.a.now.zero (code_of a j)) (is_rest c.args.b.now.zero (code_of b j)) (ap (λ y. is_rest y (code_of b j)) c.in_default.is-1))
+    (λ j there. and_false (is_rest c.args.a.now.zero (code_of a j)) (is_rest c.args.b.now.zero (code_of b j))
+    (ap (λ y. is_rest y (code_of b j)) c.in_default.is-1))
 
 pub returns-in_default-2 : goal.returns-in_default-2
 returns-in_default-2 c =

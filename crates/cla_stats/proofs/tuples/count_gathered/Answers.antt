@@ -10,7 +10,8 @@ code_entries-requires g c =
     let value = g.N.Number.value in
     let m = c.args.m.now in
     let at = c.args.first + length c.loop-items.each.items in
-    let entries = next-entries value m at _ _ c.in-Some.items c.in-Some.ensures.steps.0 c.loop-items.invariant.entries in
+    let entries =
+    next-entries value m at _ _ c.in-Some.items c.in-Some.ensures.steps.0 c.loop-items.invariant.entries in
     let rows = entries-count value m at c.in-Some.items.items entries in
     record { few = omega (arith, ap length c.deref.ensures.value, rows, c.loop-items.invariant.few) }
 
@@ -19,7 +20,8 @@ counted-requires g c =
     let value = g.N.Number.value in
     let m = c.args.m.now in
     let at = c.args.first + length c.loop-items.each.items in
-    let entries = next-entries value m at _ _ c.in-Some.items c.in-Some.ensures.steps.0 c.loop-items.invariant.entries in
+    let entries =
+    next-entries value m at _ _ c.in-Some.items c.in-Some.ensures.steps.0 c.loop-items.invariant.entries in
     let same = c.in_ok-code_entries.ensures m at (ap (map value) c.deref.ensures.value ∙ entries) in
     let shape = shaped value m c.cells.result.now c.cells.ensures.cells c.cells.ensures.shape in
     subst AreTuples (sym same) (column-are m at shape)
@@ -38,7 +40,8 @@ loop-items-preserved g c =
     let one = ap length push ∙ length_push each c.in_ok-counted.field-0 in
     let step : at + 1 ≡ c.args.first + length c.push.new.self.items = omega (arith, one) in
     record {
-      tuples = each-more m c.args.first each c.push.new.self.items c.in_ok-counted.field-0 c.loop-items.invariant.tuples push
+      tuples = each-more m c.args.first each c.push.new.self.items c.in_ok-counted.field-0
+          c.loop-items.invariant.tuples push
           (c.in_ok-counted.ensures ∙ same);
       left = omega (arith, one, ap length next, c.loop-items.invariant.left);
       entries = subst (λ n. AreGathered value m n (λ _. m.rows) c.next.new.self.rest.items) step

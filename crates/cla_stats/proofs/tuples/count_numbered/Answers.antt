@@ -35,7 +35,8 @@ loop-column-preserved g c =
     let one = ap length push ∙ length_push each c.in_ok-counted.field-0 in
     let step : at + 1 ≡ c.args.first + length c.push.new.self.items = omega (arith, one) in
     record {
-      tuples = each-more m c.args.first each c.push.new.self.items c.in_ok-counted.field-0 c.loop-column.invariant.tuples
+      tuples = each-more m c.args.first each c.push.new.self.items c.in_ok-counted.field-0
+          c.loop-column.invariant.tuples
           push (c.in_ok-counted.ensures ∙ same);
       left = omega (arith, one, ap length next, c.loop-column.invariant.left);
       numbered = subst (λ n. AreNumberedTo m n (λ _. m.rows) c.next.new.self.rest.items) step

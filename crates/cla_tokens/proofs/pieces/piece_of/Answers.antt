@@ -8,7 +8,8 @@ use Rattle.cla_tokens.proofs.pieces.piece_of.Goals as goal
 
 pub returns-then-is_ascii_digit-clause-within : goal.returns-then-is_ascii_digit-clause-within
 returns-then-is_ascii_digit-clause-within c = rw c.digits_len-n.ensures
-    (first_passes is_ascii_digit c.args.bytes.now (omega (arith, c.in-len1-up.len_at_least)) (sym c.if-is_ascii_digit.ensures.value))
+    (first_passes is_ascii_digit c.args.bytes.now (omega (arith, c.in-len1-up.len_at_least))
+    (sym c.if-is_ascii_digit.ensures.value))
 
 pub returns-in-Err-clause-value : goal.returns-in-Err-clause-value
 returns-in-Err-clause-value c =

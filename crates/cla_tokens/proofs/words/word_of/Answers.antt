@@ -55,7 +55,13 @@ returns-in_default c =
                                                   d.not-while,
                                                   (
                                                     d.not-function,
-                                                    (d.not-table, (d.not-groupSums, (d.not-frame, (d.not-decode, (d.not-append, tt))))),
+                                                    (
+                                                      d.not-table,
+                                                      (
+                                                        d.not-groupSums,
+                                                        (d.not-frame, (d.not-decode, (d.not-append, tt))),
+                                                      ),
+                                                    ),
                                                   ),
                                                 ),
                                               ),

@@ -1,7 +1,8 @@
 use Rattle.std.proofs.Common.{◌≡◌, ◌∷◌, [], ℕ, List, Ok, refl, sym, subst, ◌*◌, ◌∙◌, length, arith}
 use Rattle.cla_coded.specs.AnyGroups.{any_codes, any_dictionary}
 use Rattle.cla_meaning.specs.Counts.{HasMaps, HasMapsUpTo}
-use Rattle.cla_cli.proofs.TableLaws.{times, cells_are, cells_few, few_maps, chain_fault_is, chained_is, refused_is, ChainsTo}
+use Rattle.cla_cli.proofs.TableLaws.{times, cells_are, cells_few, few_maps, chain_fault_is, chained_is, refused_is}
+use Rattle.cla_cli.proofs.TableLaws.{ChainsTo}
 use Rattle.cla_cli.proofs.table.Table.scaled.Goals as goal
 
 -- one step makes an evaluation of each value

@@ -1,4 +1,5 @@
-use Rattle.std.proofs.Common.{◌≡◌, ◌≢◌, ◌<◌, ◌≤◌, ◌+◌, ◌∙◌, ℕ, List, length, take, drop, arith, sym, below_more, get_or-set_other, get_or-set_same}
+use Rattle.std.proofs.Common.{◌≡◌, ◌≢◌, ◌<◌, ◌≤◌, ◌+◌, ◌∙◌, ℕ, List, length, take, drop, arith, sym, below_more}
+use Rattle.std.proofs.Common.{get_or-set_other, get_or-set_same}
 use Rattle.std.proofs.lemmas.List.{ext_get_or, length-take-le, length-drop, get_or-take, get_or-drop}
 use Rattle.cla_layout.specs.Groups.{code_of}
 use Rattle.cla_codes.specs.Bytes.{codes_in}
@@ -21,7 +22,11 @@ overflow_add-first g c =
     let r = c.self.inside in
     let within : c.args.first + length c.args.into.now ≤ length (codes_in g.row.W r.bytes.items r.rows) =
     rw (← c.self.view_is) at c.requires.within in
-    omega (arith, row g.row.W c.args.first c.loop-i.i _ r.rows r.bytes.items within c.loop-i-test.true, c.self.invariant.few)
+    omega (
+      arith,
+      row g.row.W c.args.first c.loop-i.i _ r.rows r.bytes.items within c.loop-i-test.true,
+      c.self.invariant.few,
+    )
 
 pub read_code-requires-clause-within : goal.read_code-requires-clause-within
 read_code-requires-clause-within g c =

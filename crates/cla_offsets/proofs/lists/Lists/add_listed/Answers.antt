@@ -97,7 +97,8 @@ loop-k-preserved c = record {
       (code_of c.loop-k.cursors k) refl in
       let rows = c.list_from-rows.ensures (listed codes rest) c.args.tuples
       (length (listed_before codes rest (segment_begin codes c.args.s) k)) at.lists place in
-      let start : length c.args.self.now.offsets.items + c.next_start-start.result ≡ length c.loop-k.self.offsets.items =
+      let start : length c.args.self.now.offsets.items + c.next_start-start.result ≡ length
+      c.loop-k.self.offsets.items =
       omega (arith, c.next_start-start.ensures, c.len-base.ensures) in
       rw c.in_ok-push-2.ensures.items
       (under_way_more k c.args.s codes c.args.tuples rest _ _ c.args.cursors.now at begins c.loop-k-test.true _ _ _ _ _

@@ -1,4 +1,5 @@
-use Rattle.std.proofs.Common.{◌≡◌, ◌≤◌, ◌*◌, ◌++◌, pos, List, length, map, take, drop, replicate, mul-le-mul_right, arith, ap, subst}
+use Rattle.std.proofs.Common.{◌≡◌, ◌≤◌, ◌*◌, ◌++◌, pos, List, length, map, take, drop, replicate, mul-le-mul_right}
+use Rattle.std.proofs.Common.{arith, ap, subst}
 use Rattle.cla_packed.specs.Rests.{with_rest}
 use Rattle.cla_pack_reader.proofs.ListedCodes.{rest_fits, rest_few, rest_size, rest_codes, dictionary_beside_rest}
 use Rattle.cla_pack_reader.proofs.listed.ListedTuples.dictionary_with_rest.Goals as goal

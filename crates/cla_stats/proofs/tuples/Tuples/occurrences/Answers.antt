@@ -13,4 +13,5 @@ returns c =
     let are = c.self.invariant.1.occurring in
     let below : k < coded.distinct = subst (λ (t : TuplesOf). k < t.distinct) (sym c.self.view_is) c.requires in
     get_or_read occurrences k c.index.result.now (omega (arith, below, are.a_count_each)) c.index.ensures 0
-    ∙ are.count k below ∙ rows_of_count coded.codes.items k ∙ ap (λ (t : TuplesOf). occurrences_of t.codes k) c.self.view_is
+    ∙ are.count k below ∙ rows_of_count coded.codes.items k
+    ∙ ap (λ (t : TuplesOf). occurrences_of t.codes k) c.self.view_is
