@@ -43,12 +43,16 @@ pub(crate) fn add_columns<N: Number, G: Group<N>>(
     ensures whole { IsWhole N.BITS (layout_of G.codes G.dictionary m.now) }
     ensures counts { HasMults (values_of (parts_of G.codes G.dictionary m.now.parts)) meter.old meter.new }
 {
+    // (a meter of the loop's own stays in registers)
+    let mut counts = mem::replace(meter, Meter::new());
     for part in m.parts() {
-        add_part(part, into, meter);
+        add_part(part, into, &mut counts);
     }
+    *meter = counts;
 }
 
 // Adds up the columns of a part.
+#[inline(always)]
 fn add_part<N: Number, G: Group<N>>(part: &Part<G>, into: &mut [Wide], meter: &mut Meter)
     requires bits { IsSupported N.BITS }
     requires part { IsPart N.BITS (length (G.codes part.now.group)) (part_of G.codes G.dictionary part.now) }
@@ -69,6 +73,7 @@ fn add_part<N: Number, G: Group<N>>(part: &Part<G>, into: &mut [Wide], meter: &m
 }
 
 // Adds up the columns of a part, one tuple after the other.
+#[inline(always)]
 fn add_by_tuples<N: Number, G: Group<N>>(part: &Part<G>, into: &mut [Wide], meter: &mut Meter)
     requires bits { IsSupported N.BITS }
     requires part { IsPart N.BITS (length (G.codes part.now.group)) (part_of G.codes G.dictionary part.now) }
@@ -87,6 +92,7 @@ fn add_by_tuples<N: Number, G: Group<N>>(part: &Part<G>, into: &mut [Wide], mete
 }
 
 // Adds a tuple's values, as often as it occurs, each at the place of its column.
+#[inline(always)]
 fn add_tuple<N: Number, G: Group<N>>(part: &Part<G>, k: u32, into: &mut [Wide], meter: &mut Meter)
     requires bits { IsSupported N.BITS }
     requires part { IsPart N.BITS (length (G.codes part.now.group)) (part_of G.codes G.dictionary part.now) }
@@ -106,6 +112,7 @@ fn add_tuple<N: Number, G: Group<N>>(part: &Part<G>, k: u32, into: &mut [Wide], 
 }
 
 // Adds up the columns of a part, some tuples at a time, and of these one column after the other.
+#[inline(always)]
 fn add_by_columns<N: Number, G: Group<N>>(part: &Part<G>, into: &mut [Wide], meter: &mut Meter)
     requires bits { IsSupported N.BITS }
     requires part { IsPart N.BITS (length (G.codes part.now.group)) (part_of G.codes G.dictionary part.now) }
@@ -128,6 +135,7 @@ fn add_by_columns<N: Number, G: Group<N>>(part: &Part<G>, into: &mut [Wide], met
 }
 
 // Adds the values of some tuples, each as often as its tuple occurs, at the places of their columns.
+#[inline(always)]
 fn add_tuples<N: Number, G: Group<N>>(
     part: &Part<G>,
     from: u32,
@@ -153,6 +161,7 @@ fn add_tuples<N: Number, G: Group<N>>(
 }
 
 /// The sum of the values of some tuples in one place, each as often as its tuple occurs.
+#[inline(always)]
 pub(crate) fn sum_in_column<N: Number, G: Group<N>>(
     g: &G,
     c: u32,
@@ -167,15 +176,12 @@ pub(crate) fn sum_in_column<N: Number, G: Group<N>>(
     ensures sum { result ≡ sum_to (λ n. occurring (G.codes g.now) (G.dictionary g.now) (from + n) c) count }
     ensures counts { HasMults count meter.old meter.new }
 {
-    // (a meter of the loop's own stays in registers)
-    let mut counts = mem::replace(meter, Meter::new());
     let mut sum = Wide::zero();
     for n in 0..count {
         let k = from + n;
         let times = Wide::count(g.occurrences(k));
-        sum = sum.plus(g.value(k, c).times(times, &mut counts));
+        sum = sum.plus(g.value(k, c).times(times, meter));
     }
-    *meter = counts;
     sum
 }
 

@@ -19,6 +19,7 @@ use crate::columns::{NARROW, NEAR_TUPLES, sum_in_column};
 use cla_coded::Table;
 use cla_group::Group;
 use cla_num::{Meter, Number, OpFault, What, Wide};
+use std::mem;
 
 /// The sum of all cells: each tuple's values times how often it occurs (PVLDB 9(12), section 3). Refused
 /// exactly where it isn't in range, at entry (1, 1); no partial sum is tested for range.
@@ -57,14 +58,18 @@ fn base_sum<N: Number, G: Group<N>>(m: &Table<N, G>, meter: &mut Meter) -> Wide
     ensures sum { result ≡ sum_of_entries m.now.rows m.now.cols (entry_in (parts_of G.codes G.dictionary m.now.parts)) }
     ensures counts { HasMults (values_of (parts_of G.codes G.dictionary m.now.parts)) meter.old meter.new }
 {
+    // (a meter of the loop's own stays in registers)
+    let mut counts = mem::replace(meter, Meter::new());
     let mut sum = Wide::zero();
     for part in m.parts() {
-        sum = sum.plus(group_sum(&part.group, meter));
+        sum = sum.plus(group_sum(&part.group, &mut counts));
     }
+    *meter = counts;
     sum
 }
 
 // The sum of a group's cells.
+#[inline(always)]
 fn group_sum<N: Number, G: Group<N>>(g: &G, meter: &mut Meter) -> Wide
     requires bits { IsSupported N.BITS }
     requires room { AreBelow group_bound meter.old }
@@ -80,6 +85,7 @@ fn group_sum<N: Number, G: Group<N>>(g: &G, meter: &mut Meter) -> Wide
 }
 
 // The sum of a group's cells, some tuples at a time, and of these one column after the other.
+#[inline(always)]
 fn sum_by_columns<N: Number, G: Group<N>>(g: &G, meter: &mut Meter) -> Wide
     requires bits { IsSupported N.BITS }
     requires room { AreBelow group_bound meter.old }
@@ -99,6 +105,7 @@ fn sum_by_columns<N: Number, G: Group<N>>(g: &G, meter: &mut Meter) -> Wide
 }
 
 // The sum of the values of some tuples, each as often as its tuple occurs.
+#[inline(always)]
 fn sum_of_tuples<N: Number, G: Group<N>>(g: &G, from: u32, count: u32, meter: &mut Meter) -> Wide
     requires bits { IsSupported N.BITS }
     requires room { AreBelow step_bound meter.old }
@@ -115,6 +122,7 @@ fn sum_of_tuples<N: Number, G: Group<N>>(g: &G, from: u32, count: u32, meter: &m
 }
 
 // The sum of a group's cells, tuple by tuple.
+#[inline(always)]
 fn sum_by_tuples<N: Number, G: Group<N>>(g: &G, meter: &mut Meter) -> Wide
     requires bits { IsSupported N.BITS }
     requires room { AreBelow group_bound meter.old }
@@ -130,6 +138,7 @@ fn sum_by_tuples<N: Number, G: Group<N>>(g: &G, meter: &mut Meter) -> Wide
 }
 
 // The sum of a tuple's values over all of its rows.
+#[inline(always)]
 fn tuple_sum<N: Number, G: Group<N>>(g: &G, k: u32, meter: &mut Meter) -> Wide
     requires bits { IsSupported N.BITS }
     requires tuple { k < length (G.dictionary g.now) }

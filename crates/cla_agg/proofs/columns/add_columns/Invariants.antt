@@ -10,7 +10,7 @@ use Rattle.cla_agg.proofs.columns.add_columns.Given as goal
 abbrev pub invariant-loop-part : goal.invariant-loop-part
 invariant-loop-part g l = record {
   sums : ArePartsPlaced IsSumOf (layout_of g.G.Group.codes g.G.Group.dictionary l.m) l.part-index l.fn.into l.into;
-  counts : l.meter
+  counts : l.counts
       ≡ record l.fn.meter {
         mults =
             l.fn.meter.mults + values_of (take l.part-index (parts_of g.G.Group.codes g.G.Group.dictionary l.m.parts));

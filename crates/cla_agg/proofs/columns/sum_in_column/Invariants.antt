@@ -8,5 +8,5 @@ abbrev pub invariant-loop-n : goal.invariant-loop-n
 invariant-loop-n g l = record {
   sum : l.sum
       ≡ sum_to (λ n. occurring (g.G.Group.codes l.g) (g.G.Group.dictionary l.g) (l.from + n) l.c) l.n;
-  counts : l.counts ≡ record l.fn.meter { mults = l.fn.meter.mults + l.n };
+  counts : l.meter ≡ record l.fn.meter { mults = l.fn.meter.mults + l.n };
 }

@@ -10,7 +10,7 @@ abbrev pub invariant-loop-part : goal.invariant-loop-part
 invariant-loop-part g l = record {
   sum : l.sum
       ≡ sum_over (cells_sum l.m.rows) (take l.part-index (parts_of g.G.Group.codes g.G.Group.dictionary l.m.parts));
-  counts : l.meter
+  counts : l.counts
       ≡ record l.fn.meter {
         mults =
             l.fn.meter.mults + values_of (take l.part-index (parts_of g.G.Group.codes g.G.Group.dictionary l.m.parts));
