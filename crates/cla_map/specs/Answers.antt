@@ -38,6 +38,15 @@ pub record MapsTuple (stop : ℕ → ℤ → Option Stop) (h : ℕ → ℤ → �
   pub placed : IsPlaced first
   pub counts : AreRaised (length part.columns * steps) first before now
 
+-- all tuples of a part are done: their values are there, and the first that stops is told
+pub record MapsTuples (stop : ℕ → ℤ → Option Stop) (h : ℕ → ℤ → ℤ) (shape : Shape) (part : LayoutPart)
+    (new : List ℤ)
+    (first : Option Misfit) (steps : ℕ) (before now : Counts) : Type 0 where
+  pub values : new ≡ part_values h part (length part.tuples * length part.columns)
+  pub tells : Tells (StopsInPart stop (place_in shape) part) first
+  pub placed : IsPlaced first
+  pub counts : AreRaised (length part.tuples * length part.columns * steps) first before now
+
 -- a part is done
 pub record MapsPart (stop : ℕ → ℤ → Option Stop) (h : ℕ → ℤ → ℤ) (shape : Shape) (part new : LayoutPart)
     (first : Option Misfit) (steps : ℕ) (before now : Counts) : Type 0 where

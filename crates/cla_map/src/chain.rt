@@ -1,6 +1,6 @@
 //! Chains of steps, and rows, over groups, parts and tables.
 
-ghost use Rattle.std.specs.Prelude.{◌≡◌, ◌<◌, ◌*◌, ◌^◌, ℕ, false, length, map, IfOk};
+ghost use Rattle.std.specs.Prelude.{◌≡◌, ◌<◌, ◌*◌, ◌^◌, ℕ, false, [], length, map, IfOk};
 ghost use Rattle.cla_num.specs.Bits.{IsSupported};
 ghost use Rattle.cla_num.specs.Counts.{AreBelow, kernel_bound};
 ghost use Rattle.cla_num.specs.Fault.{fault_of};
@@ -15,7 +15,7 @@ ghost use Rattle.cla_meaning.specs.Entries.{broadcast_entry};
 ghost use Rattle.cla_map.specs.Steps.{step_cell};
 ghost use Rattle.cla_map.specs.Stops.{part_room, tuple_room};
 ghost use Rattle.cla_map.specs.FirstStops.{part_values};
-ghost use Rattle.cla_map.specs.Answers.{HasShape, MapsTuple, MapsPart, MapsParts, MapsTable};
+ghost use Rattle.cla_map.specs.Answers.{HasShape, MapsTuple, MapsTuples, MapsPart, MapsParts, MapsTable};
 
 use crate::mapping::{Chain, Mapping, RowOp};
 use crate::misfit::{Misfit, lesser, placed};
@@ -26,8 +26,10 @@ use cla_coded::{Part, Table};
 use cla_group::{Group, Owned};
 use cla_num::{CellOp, Memory, Meter, Number, Refused};
 use std::alloc::Global;
+use std::mem;
 
 // All steps on the values of a tuple, each of which is appended.
+#[inline(always)]
 fn map_tuple<N: Number, G: Group<N>, M: Mapping<N>>(
     part: &Part<G>,
     t: u32,
@@ -61,6 +63,36 @@ fn map_tuple<N: Number, G: Group<N>, M: Mapping<N>>(
     Ok(first)
 }
 
+// All steps on the values of a part, which are appended.
+#[inline(always)]
+fn map_tuples<N: Number, G: Group<N>, M: Mapping<N>>(
+    part: &Part<G>,
+    shape: Shape,
+    mapping: &M,
+    values: &mut Vec<N>,
+    meter: &mut Meter,
+) -> Result<Option<Misfit>, Memory>
+    requires bits { IsSupported N.BITS }
+    requires few { M.steps mapping.now < 2 ^ 32 }
+    requires covers { (j : ℕ) → j < shape.cols → M.covers mapping.now j }
+    requires shape { HasShape N.BITS shape (part_of G.codes G.dictionary part.now) }
+    requires room { AreBelow part_room meter.old }
+    requires none_yet { values.old.items ≡ [] }
+    ensures done { let p = part_of G.codes G.dictionary part.now in
+        let new = map N.value values.new.items in
+        IfOk result (λ first. MapsTuples (M.stop mapping.now) (M.last mapping.now) shape p new first
+        (M.steps mapping.now) meter.old meter.new) }
+    ensures counts { let p = part_of G.codes G.dictionary part.now in
+        HasMapsUpTo (length p.tuples * length p.columns * M.steps mapping.now) meter.old meter.new }
+{
+    let mut first = None;
+    for t in 0..part.group.tuples() {
+        let found = map_tuple(part, t, shape, mapping, values, meter)?;
+        first = lesser(first, found);
+    }
+    Ok(first)
+}
+
 // All steps on the values of a part, for which there is room.
 fn map_part<N: Number, G: Owned<N> + Drop, M: Mapping<N>>(
     alloc: Global,
@@ -85,11 +117,11 @@ fn map_part<N: Number, G: Owned<N> + Drop, M: Mapping<N>>(
         columns,
         mut values,
     } = room;
-    let mut first = None;
-    for t in 0..part.group.tuples() {
-        let found = map_tuple(part, t, shape, mapping, &mut values, meter)?;
-        first = lesser(first, found);
-    }
+    // (a meter of the loop's own stays in registers)
+    let mut counts = mem::replace(meter, Meter::new());
+    let found = map_tuples(part, shape, mapping, &mut values, &mut counts);
+    *meter = counts;
+    let first = found?;
     let group = part.group.with_values(alloc, values)?;
     Ok((Part { columns, group }, first))
 }

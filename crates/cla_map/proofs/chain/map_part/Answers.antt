@@ -1,98 +1,44 @@
-use Rattle.std.proofs.Common.{◌≡◌, ◌≤◌, ◌+◌, ◌*◌, ℕ, ℤ, List, length, map, ap, subst, sym, ◌∙◌, arith}
-use Rattle.std.proofs.Math.Nat.{mul-le-mul_right}
+use Rattle.std.proofs.Common.{◌≡◌, ◌*◌, ℕ, ℤ, List, length, map, ap, subst, sym, ◌∙◌}
 use Rattle.std.proofs.lemmas.List.{length-map}
-use Rattle.cla_layout.specs.Groups.{value_of, first_row_of}
+use Rattle.cla_num.specs.Counts.{Counts}
 use Rattle.cla_layout.specs.Tuples.{tuples_of}
-use Rattle.cla_layout.proofs.Cells.{values_few}
 use Rattle.cla_layout.proofs.Wholes.{same_width}
 use Rattle.cla_coded.specs.Parts.{part_of}
 use Rattle.cla_layout.specs.Layouts.{column_at}
-use Rattle.cla_map.specs.Stops.{place_in}
-use Rattle.cla_map.specs.FirstStops.{Tells, StopsIn, part_values, mapped_part}
-use Rattle.cla_map.specs.Answers.{MapsTuple}
-use Rattle.cla_map.proofs.Steps.{tells_tuple, raised_more, raised_as}
-use Rattle.cla_map.proofs.Results.{mapped_count, equal_parts, few_runs}
+use Rattle.cla_meaning.specs.Counts.{AreRaised}
+use Rattle.cla_map.specs.FirstStops.{mapped_part}
+use Rattle.cla_map.proofs.Results.{mapped_count, equal_parts}
 use Rattle.cla_map.proofs.chain.map_part.Goals as goal
-
-pub map_tuple-requires-clause-room : goal.map_tuple-requires-clause-room
-map_tuple-requires-clause-room g c =
-    let laws = g.met.G.Group.laws c.args.room.part.now.group in
-    let few = values_few _ _ _ _ c.requires.shape.is.group in
-    let w = length c.args.room.part.now.columns.items in
-    let before : c.loop-t.t ≤ length (g.G.Group.dictionary c.args.room.part.now.group) =
-    omega (arith, c.loop-t-test.true, c.tuples-t-end.ensures) in
-    let small = few_runs (c.loop-t.t * w) (g.M.Mapping.steps c.args.mapping.now)
-    (omega (arith, few, mul-le-mul_right w before)) c.requires.few in
-    record {
-      mults = omega (arith, c.requires.room.mults, c.loop-t.invariant.counts.mults);
-      maps =
-          omega (arith, c.requires.room.maps, c.loop-t.invariant.counts.most, small);
-    }
-
-pub loop-t-preserved : goal.loop-t-preserved
-loop-t-preserved g c =
-    let codes = g.G.Group.codes c.args.room.part.now.group in
-    let tuples = g.G.Group.dictionary c.args.room.part.now.group in
-    let columns = c.args.room.part.now.columns.items in
-    let part = part_of g.G.Group.codes g.G.Group.dictionary c.args.room.part.now in
-    let stop = g.M.Mapping.stop c.args.mapping.now in
-    let last = g.M.Mapping.last c.args.mapping.now in
-    let done : MapsTuple stop last c.args.shape (part_of g.G.Group.codes g.G.Group.dictionary c.args.room.part.now)
-    c.loop-t.t (map g.N.Number.value c.map_tuple.new.values.items) c.in_ok-found.found
-    (g.M.Mapping.steps c.args.mapping.now) c.loop-t.meter c.map_tuple.new.meter = c.in_ok-found.ensures.done in
-    let t = c.loop-t.t in
-    let w = length columns in
-    let next : t * w + w ≡ (t + 1) * w = omega arith in
-    let runs : t * w * g.M.Mapping.steps c.args.mapping.now + w * g.M.Mapping.steps c.args.mapping.now
-    ≡ (t + 1) * w * g.M.Mapping.steps c.args.mapping.now = omega arith in
-    let told = tells_tuple (λ (k : ℕ). stop (column_at columns k)) w
-    (λ k c'. place_in c.args.shape (first_row_of codes k) (column_at columns c')) (value_of tuples) t c.loop-t.first
-    c.in_ok-found.found c.loop-t.invariant.placed done.placed c.loop-t.invariant.tells done.tells in
-    rw c.lesser-first.ensures
-    (record {
-      values = done.values ∙ ap (part_values last part) next;
-      tells = told.0;
-      placed = told.1;
-      counts = raised_as _ _ _ _ _ runs (raised_more _ _ _ _ _ _ _ c.loop-t.invariant.counts done.counts);
-    })
 
 pub with_values-requires : goal.with_values-requires
 with_values-requires g c =
     let tuples = g.G.Group.dictionary c.args.room.part.now.group in
     let columns = c.args.room.part.now.columns.items in
+    let done = c.in_ok-first.ensures.done in
     let wide = same_width _ _ _ _ _ (g.met.G.Group.laws c.args.room.part.now.group) c.requires.shape.is.group in
-    let all : c.loop-t.t ≡ length tuples =
-    omega (arith, c.loop-t-test.false, c.tuples-t-end.ensures, c.loop-t.auto.t-end) in
     let h = λ (k : ℕ). g.M.Mapping.last c.args.mapping.now (column_at columns k) in
-    let count : length c.loop-t.values.items ≡ c.loop-t.t * length columns =
-    sym (length-map c.loop-t.values.items g.N.Number.value)
-    ∙ ap (λ (xs : List ℤ). length xs) c.loop-t.invariant.values
-    ∙ mapped_count h (length columns) tuples (c.loop-t.t * length columns) in
-    record { whole = count ∙ ap (λ (t : ℕ). t * length columns) all ∙ ap (λ (w : ℕ). length tuples * w) (sym wide) }
+    let count : length c.map_tuples-found.new.values.items ≡ length tuples * length columns =
+    sym (length-map c.map_tuples-found.new.values.items g.N.Number.value)
+    ∙ ap (λ (xs : List ℤ). length xs) done.values
+    ∙ mapped_count h (length columns) tuples (length tuples * length columns) in
+    record { whole = count ∙ ap (λ (w : ℕ). length tuples * w) (sym wide) }
 
 pub returns-clause-done : goal.returns-clause-done
 returns-clause-done g c =
-    let codes = g.G.Group.codes c.args.room.part.now.group in
     let tuples = g.G.Group.dictionary c.args.room.part.now.group in
     let columns = c.args.room.part.now.columns.items in
     let part = part_of g.G.Group.codes g.G.Group.dictionary c.args.room.part.now in
-    let stop = g.M.Mapping.stop c.args.mapping.now in
     let last = g.M.Mapping.last c.args.mapping.now in
+    let done = c.in_ok-first.ensures.done in
     let wide = same_width _ _ _ _ _ (g.met.G.Group.laws c.args.room.part.now.group) c.requires.shape.is.group in
-    let all : c.loop-t.t ≡ length tuples =
-    omega (arith, c.loop-t-test.false, c.tuples-t-end.ensures, c.loop-t.auto.t-end) in
-    let items : map g.N.Number.value c.loop-t.values.items ≡ part_values last part (length tuples * length columns) =
-    c.loop-t.invariant.values ∙ ap (λ (t : ℕ). part_values last part (t * length columns)) all in
     record {
       values = equal_parts _ (mapped_part last part) c.args.room.is.same c.in_ok-group.ensures.codes
           (c.in_ok-group.ensures.dictionary
-          ∙ ap (λ (w : ℕ). tuples_of w (length tuples) (map g.N.Number.value c.loop-t.values.items)) wide
-          ∙ ap (tuples_of (length columns) (length tuples)) items);
-      tells = subst (λ (t : ℕ). Tells
-          (StopsIn (λ (k : ℕ). stop (column_at columns k)) t (length columns)
-          (λ k c'. place_in c.args.shape (first_row_of codes k) (column_at columns c')) (value_of tuples))
-          c.loop-t.first) all c.loop-t.invariant.tells;
-      placed = c.loop-t.invariant.placed;
-      counts = raised_as _ _ _ _ _ (ap (λ (t : ℕ). t * length columns * g.M.Mapping.steps c.args.mapping.now) all)
-          c.loop-t.invariant.counts;
+          ∙ ap (λ (w : ℕ). tuples_of w (length tuples) (map g.N.Number.value c.map_tuples-found.new.values.items)) wide
+          ∙ ap (tuples_of (length columns) (length tuples)) done.values);
+      tells = done.tells;
+      placed = done.placed;
+      counts = subst (λ (m : Counts). AreRaised
+          (length tuples * length columns * g.M.Mapping.steps c.args.mapping.now) c.in_ok-first.first m c.map_tuples-found.new.meter)
+          c.replace-counts.ensures.value done.counts;
     }

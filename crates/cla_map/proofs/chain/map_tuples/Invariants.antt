@@ -6,19 +6,19 @@ use Rattle.cla_map.specs.Stops.{place_in}
 use Rattle.cla_meaning.specs.Counts.{AreRaised}
 use Rattle.cla_map.specs.FirstStops.{Tells, StopsIn, part_values}
 use Rattle.cla_map.specs.Answers.{IsPlaced}
-use Rattle.cla_map.proofs.chain.map_part.Given as goal
+use Rattle.cla_map.proofs.chain.map_tuples.Given as goal
 
 -- the tuples before t
 abbrev pub invariant-loop-t : goal.invariant-loop-t
 invariant-loop-t g l = record {
   values : map g.N.Number.value l.values.items ≡ part_values (g.M.Mapping.last l.mapping)
-      (part_of g.G.Group.codes g.G.Group.dictionary l.fn.room.part.now) (l.t * length l.fn.room.part.now.columns.items);
-  tells : Tells (StopsIn (λ (c : ℕ). g.M.Mapping.stop l.mapping (column_at l.fn.room.part.now.columns.items c)) l.t
-      (length l.fn.room.part.now.columns.items)
-      (λ k c. place_in l.shape (first_row_of (g.G.Group.codes l.fn.room.part.now.group) k)
-      (column_at l.fn.room.part.now.columns.items c)) (value_of (g.G.Group.dictionary l.fn.room.part.now.group)))
+      (part_of g.G.Group.codes g.G.Group.dictionary l.part) (l.t * length l.part.columns.items);
+  tells : Tells (StopsIn (λ (c : ℕ). g.M.Mapping.stop l.mapping (column_at l.part.columns.items c)) l.t
+      (length l.part.columns.items)
+      (λ k c. place_in l.shape (first_row_of (g.G.Group.codes l.part.group) k)
+      (column_at l.part.columns.items c)) (value_of (g.G.Group.dictionary l.part.group)))
       l.first;
   placed : IsPlaced l.first;
-  counts : AreRaised (l.t * length l.fn.room.part.now.columns.items * g.M.Mapping.steps l.mapping) l.first l.fn.meter
+  counts : AreRaised (l.t * length l.part.columns.items * g.M.Mapping.steps l.mapping) l.first l.fn.meter
       l.meter;
 }
