@@ -1,10 +1,8 @@
 -- How many bytes a table takes at most.
-use Rattle.std.proofs.Common.{◌≡◌, ◌≤◌, ◌<◌, ◌+◌, ◌*◌, ◌^◌, ℕ, List, [], ◌∷◌, length, Bool, true, false}
+use Rattle.std.proofs.Common.{◌≡◌, ◌≤◌, ◌<◌, ◌+◌, ◌^◌, ℕ, List, [], ◌∷◌, Bool, true, false}
 use Rattle.std.proofs.Common.{if◌then◌else◌, nat_le, map, refl, arith}
 use Rattle.std.proofs.lemmas.Bool.Decides.{nat_tests}
-use Rattle.cla_spec.specs.Matrix.{Matrix, IsShaped, most_cells}
-use Rattle.cla_grouping.specs.Tuples.{AreColumns}
-use Rattle.cla_grouping.proofs.Numbered.{few-columns}
+use Rattle.cla_spec.specs.Matrix.{Matrix, IsShaped}
 use Rattle.cla_grouping.specs.Sizes.{plain_bytes}
 use Rattle.cla_grouping.proofs.SizeLemmas.{times-le}
 use Rattle.cla_grouping.specs.Grouping.{GroupOf, grouping_of, groups_to, in_best_kind, one_plain, bytes_in, or_plain}
@@ -34,9 +32,3 @@ pub few : {X : Type 0} (m : Matrix) (cells : List X) → IsShaped m.rows m.cols 
     → packed_size (grouping_of m) < 2 ^ 64
 few m cells shape =
     omega (arith, no_larger m, shape.few, times-le 1 m.cols m.rows m.cols shape.a_row (omega arith))
-
--- columns of a matrix have few cells
-pub few_cells : {X : Type 0} (rows cols : ℕ) (cells : List X) (columns : List ℕ) → IsShaped rows cols cells
-    → AreColumns cols columns → rows * length columns ≤ most_cells
-few_cells rows cols cells columns shape are =
-    omega (arith, shape.few, times-le rows (length columns) rows cols (omega arith) (few-columns cols columns are))

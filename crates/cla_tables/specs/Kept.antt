@@ -9,7 +9,7 @@ use Rattle.cla_layout.specs.Canonical.{IsCanonical}
 use Rattle.cla_coded.specs.AnyGroups.{any_codes, any_dictionary}
 use Rattle.cla_coded.specs.Forms.{kinds_of}
 use Rattle.cla_coded.specs.Tables.{layout_of}
-use Rattle.cla_pack_reader.specs.Kept.{layout_kept}
+use Rattle.cla_pack_reader.specs.Kept.{layout_kept, HaveTheirForms}
 use Rattle.cla_tables.specs.declared.kept.Kept.{Kept}
 use Rattle.cla_tables.specs.declared.kept.Kept.TheVariants.{Text, Packed}
 use Rattle.cla_tables.specs.TableFiles.{TableFile, of_matrix, of_layout}
@@ -20,8 +20,9 @@ module _ {N : Type 0} {n : number.Ghosts N} {o : ord.Ghosts N} {e : partial_eq.G
   file_kept (Text m) = of_matrix m
   file_kept (Packed packed) = of_layout packed.bytes (layout_kept packed.table)
 
-  -- the table of a packed file isn't a transpose, and is in the one form
+  -- the table of a packed file isn't a transpose, its groups are kept in the forms of their kinds, and it is in the one
+  -- form
   abbrev pub IsKept : Kept N n o e p h → Type 0
   IsKept (Text m) = Unit {0}
-  IsKept (Packed packed) = (packed.table.flipped ≡ false)
+  IsKept (Packed packed) = (packed.table.flipped ≡ false) × HaveTheirForms packed.table.parts
       × IsCanonical n.BITS (layout_of any_codes any_dictionary packed.table) (kinds_of packed.table)

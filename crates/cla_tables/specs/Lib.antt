@@ -3,3 +3,4 @@ pub mod Reading
 pub mod Budget
 pub mod Stats
 pub mod Kept
+pub mod KeptStats
