@@ -8,10 +8,9 @@ use Rattle.cla_layout.specs.Listed.{numbered_rest}
 use Rattle.cla_packed.specs.Fields.{list_at}
 use Rattle.cla_packed.specs.Lists.{owners_of}
 use Rattle.cla_packed.specs.Rests.{all_named}
-use Rattle.cla_pack_reader.specs.declared.list.Listing.{Listing}
 use Rattle.cla_pack_reader.specs.ListedParts.{flag, HaveOwners}
 use Rattle.cla_pack_reader.specs.ListedRows.{AreNamed}
-use Rattle.cla_pack_reader.specs.Listings.{rows_at}
+use Rattle.cla_pack_reader.specs.Listings.{Listing, rows_at}
 use Rattle.cla_pack_reader.specs.Places.{places_of, Took}
 use Rattle.cla_pack_reader.proofs.CoverLaws.{first_is_unlisted, cover_test, covered_has, some_not_all}
 use Rattle.cla_pack_reader.proofs.ListsTaken.{AreOwned, lists_owned}

@@ -1,7 +1,7 @@
 -- What is read at a place is good, whichever bytes stand behind it.
-use Rattle.std.proofs.Common.{◌≡◌, Bool, false, ℕ, ℤ, pos, zero, suc, ◌+◌, ◌*◌, ◌/◌, ◌^◌, ◌<◌, ◌≤◌, true, Option}
+use Rattle.std.proofs.Common.{◌≡◌, Bool, false, ℕ, ℤ, pos, ◌+◌, ◌*◌, ◌/◌, ◌^◌, ◌<◌, ◌≤◌, true, Option}
 use Rattle.std.proofs.Common.{List, [], length, map, min, Ok, refl, sym, ap, subst, ◌∙◌, arith, inl, inr}
-use Rattle.std.specs.Prelude.{nat_lt, ◌≢◌}
+use Rattle.std.specs.Prelude.{nat_lt}
 use Rattle.std.specs.List.{range_with_len}
 use Rattle.std.proofs.lemmas.Bool.{cases_Bool, ltb-false, lt-ltb}
 use Rattle.std.proofs.lemmas.List.FromFn.{length-map-range_with_len}
@@ -13,14 +13,14 @@ use Rattle.cla_layout.specs.declared.kind.Kind.TheVariants as kinds
 use Rattle.cla_layout.specs.GroupLaws.{AreCodesOf}
 use Rattle.cla_layout.specs.Listed.{rest_of}
 use Rattle.cla_layout.specs.Tuples.{AreCodes, tuple_at, tuples_of}
-use Rattle.cla_coded.specs.AnyGroups.{FormOf, form_of, HasCodes}
+use Rattle.cla_coded.specs.AnyGroups.{FormOf, form_of}
 use Rattle.cla_packed.specs.declared.fault.FieldName.{FieldName}
 use Rattle.cla_packed.specs.declared.fault.FieldName.TheVariants.{Tuples}
 use Rattle.cla_packed.specs.declared.fault.PackFault.TheVariants.{Field}
 use Rattle.cla_packed.specs.Bodies.{Body, IsBody, body_of, fits_tuples, is_new, coded_at}
 use Rattle.cla_packed.specs.Codes.{code_bytes, codes_at}
 use Rattle.cla_packed.specs.Fields.{Place, Read, number_at, field_at, then_at, as_at, tested, ◌>>=◌}
-use Rattle.cla_packed.specs.Files.{own_codes, kind_of}
+use Rattle.cla_packed.specs.Files.{own_codes}
 use Rattle.cla_packed.specs.Values.{tuples_at}
 use Rattle.cla_packed_laws.proofs.Coded.{coded_form}
 use Rattle.cla_packed_laws.proofs.Forms.{IsAt, bind_ok}
@@ -110,19 +110,6 @@ codes_are value bits rows width codes values some wide few whole h =
       used = are.used;
     }
 
-pub has_them : (kind : Kind) (codes codes' : List ℕ) (tuples tuples' : List (List ℤ)) (width : ℕ) → kind ≢ kinds.Plain
-    → HasCodes kind codes tuples codes' tuples' width → with_codes codes' tuples' ≡ with_codes codes tuples
-has_them kinds.Plain codes codes' tuples tuples' width other h = absurd (other refl)
-has_them kinds.Codes codes codes' tuples tuples' width other h = λ i. with_codes (h.0 i) (h.1 i)
-has_them kinds.Offsets codes codes' tuples tuples' width other h = λ i. with_codes (h.0 i) (h.1 i)
-has_them kinds.Runs codes codes' tuples tuples' width other h = λ i. with_codes (h.0 i) (h.1 i)
-
-pub form_kept : (kind : Kind) (codes codes' : List ℕ) (tuples tuples' : List (List ℤ)) (form : FormOf)
-    → with_codes codes' tuples' ≡ with_codes codes tuples → form ≡ form_of kind codes tuples
-    → form ≡ form_of kind codes' tuples'
-form_kept kind codes codes' tuples tuples' form same is =
-    is ∙ ap (λ (b : Body). form_of kind b.codes b.tuples) (sym same)
-
 pub form_kind : (kind : Kind) (codes : List ℕ) (tuples : List (List ℤ)) → (form_of kind codes tuples).kind ≡ kind
 form_kind kinds.Plain codes tuples = refl
 form_kind kinds.Codes codes tuples = refl
@@ -138,13 +125,6 @@ own_are width rows n codes tuples values is c t =
     ∙ λ i. with_codes (sym c i) (sym t i)
 
 -- ---- kinds
-
-pub kind_rest : (n : ℕ) → 4 ≤ n → kind_of n ≡ kinds.Runs
-kind_rest zero h = absurd (omega (arith, h))
-kind_rest (suc zero) h = absurd (omega (arith, h))
-kind_rest (suc (suc zero)) h = absurd (omega (arith, h))
-kind_rest (suc (suc (suc zero))) h = absurd (omega (arith, h))
-kind_rest (suc (suc (suc (suc n)))) h = refl
 
 pub zero_fits : (bits : ℕ) → Holds 8 (pos 0) × (in_range bits (pos 0) ≡ true)
 zero_fits bits = (omega arith, lt-ltb 0 (2 ^ bits) (pow_pos bits))

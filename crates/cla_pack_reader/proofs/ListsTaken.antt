@@ -4,6 +4,7 @@ use Rattle.std.proofs.Common.{refl, sym, ap, subst, ◌∙◌, arith, inl, inr}
 use Rattle.std.specs.Prelude.{not}
 use Rattle.std.specs.List.{AllByRecursion}
 use Rattle.std.proofs.lemmas.Bool.{cases_eq, eq-eqb, ne_eqb, and_parts, not-true}
+use Rattle.std.proofs.lemmas.List.FromFn.{length-map-range_with_len}
 use Rattle.cla_io.specs.Lines.{Progress}
 use Rattle.cla_io.specs.State.{State}
 use Rattle.cla_layout.specs.Listed.{is_zero, rows_of}
@@ -16,10 +17,9 @@ use Rattle.cla_packed_laws.proofs.Forms.{IsAt, list_form}
 use Rattle.cla_packed_laws.proofs.Lists.{owners_from, in_map}
 use Rattle.cla_packed_laws.proofs.Values.{tuples_form}
 use Rattle.cla_rows.specs.Chains.{lists_to, begins_to}
-use Rattle.cla_pack_reader.specs.declared.list.Listing.{Listing}
-use Rattle.cla_pack_reader.specs.Listings.{rows_at}
-use Rattle.cla_pack_reader.specs.ListedParts.{flag, AreRowsByOwner}
-use Rattle.cla_pack_reader.specs.ListedRows.{list_in}
+use Rattle.cla_pack_reader.specs.Listings.{Listing, rows_at}
+use Rattle.cla_pack_reader.specs.ListedParts.{flag}
+use Rattle.cla_pack_reader.specs.ListedRows.{list_in, AreListsOf}
 use Rattle.cla_pack_reader.specs.Places.{places_of, Took}
 use Rattle.cla_pack_reader.proofs.InsertedLists.{lists_same, begins_same}
 use Rattle.cla_pack_reader.proofs.Renumbered.{rows_are}
@@ -53,20 +53,20 @@ lists_owned listing rows group d lists t1 t2 s1 s2 some few near took =
 pub owned_rows : (d : ℕ) (owners : List ℕ) (t : ℕ) → t < d → list_in (lists_of d owners) t ≡ rows_of owners t
 owned_rows d owners t lt = in_map (rows_from 0 owners) d t [] lt ∙ rows_are owners t
 
--- lists one behind the other
-pub rows_owned : (rows d : ℕ) (lists : List (List ℕ)) (starts places : List ℕ) → AreOwned rows d lists
-    → starts ≡ begins_to (list_in lists) (length lists + 1) → places ≡ lists_to (list_in lists) (length lists)
-    → AreRowsByOwner d (owners_of rows lists) starts places
-rows_owned rows d lists starts places owned starts_are places_are =
-    let owners = owners_of rows lists in
-    let same : (t : ℕ) → t < d → list_in lists t ≡ rows_of owners t = λ t lt.
-    ap (λ (l : List (List ℕ)). list_in l t) (sym owned.lists_are) ∙ owned_rows d owners t lt in
-    record {
-      starts_are = starts_are ∙ ap (λ (n : ℕ). begins_to (list_in lists) (n + 1)) owned.count
-          ∙ begins_same (list_in lists) (rows_of owners) d same;
-      places_are = places_are ∙ ap (λ (n : ℕ). lists_to (list_in lists) n) owned.count
-          ∙ lists_same (list_in lists) (rows_of owners) d same;
-    }
+pub list_count : (d : ℕ) (owners : List ℕ) → length (lists_of d owners) ≡ d
+list_count d owners = length-map-range_with_len (rows_from 0 owners) 0 d
+
+-- the lists of owners one behind the other
+pub by_owner : (d : ℕ) (owners starts places : List ℕ) → AreListsOf (lists_of d owners) starts places
+    → (starts ≡ begins_to (rows_of owners) (d + 1)) × (places ≡ lists_to (rows_of owners) d)
+by_owner d owners starts places s =
+    let lists = list_in (lists_of d owners) in
+    let count = list_count d owners in (
+      s.starts_are ∙ ap (λ (n : ℕ). begins_to lists (n + 1)) count
+          ∙ begins_same lists (rows_of owners) d (owned_rows d owners),
+      s.places_are ∙ ap (λ (n : ℕ). lists_to lists n) count
+          ∙ lists_same lists (rows_of owners) d (owned_rows d owners),
+    )
 
 -- ---- tuples that were read
 

@@ -5,7 +5,6 @@ use Rattle.std.specs.List.{Contains}
 use Rattle.std.proofs.lemmas.Bool.{cases_lt, eq-eqb, eqb-true, false≢true}
 use Rattle.std.proofs.lemmas.List.{get_or_default}
 use Rattle.std.proofs.lemmas.List.Sums.{fails_before_first}
-use Rattle.std.proofs.lemmas.List.FromFn.{length-map-range_with_len}
 use Rattle.cla_layout.specs.Groups.{code_of, first_row_of}
 use Rattle.cla_layout.specs.Listed.{rows_of}
 use Rattle.cla_packed.specs.Codes.{has}
@@ -17,9 +16,10 @@ use Rattle.cla_packed_laws.proofs.Rests.{rest_code_is}
 use Rattle.cla_rows.specs.Chains.{lists_to}
 use Rattle.cla_rows.proofs.Chains.{begins_count, begin_at, list_item, list_within_all}
 use Rattle.cla_runs.specs.declared.run_list.KeyedRun.{KeyedRun}
-use Rattle.cla_pack_reader.specs.ListedParts.{HasRest, AreRowsByOwner}
-use Rattle.cla_pack_reader.specs.ListedRows.{list_in, AreRunsOf}
+use Rattle.cla_pack_reader.specs.ListedParts.{HasRest}
+use Rattle.cla_pack_reader.specs.ListedRows.{list_in, AreListsOf, AreRunsOf}
 use Rattle.cla_pack_reader.proofs.ListedCodes.{rest_has}
+use Rattle.cla_pack_reader.proofs.ListsTaken.{list_count, by_owner}
 use Rattle.cla_pack_reader.proofs.Renumbered.{rows_are}
 
 -- no row before the first one has the code
@@ -64,7 +64,7 @@ module _ (rows d first : ℕ) (owners : List ℕ) (h : HasRest rows d owners fir
 -- ---- by lists
 
 module _ (rows d first : ℕ) (owners starts places : List ℕ) (h : HasRest rows d owners first)
-    (s : AreRowsByOwner d owners starts places) where
+    (s : AreListsOf (lists_of d owners) starts places) where
   some_row : (t : ℕ) → t < d → (0 < length (rows_of owners t)) × (code_of (rows_of owners t) 0 ≡ first_row_of owners t)
   some_row t lt =
       let f = rows_first 0 owners t (h.owners_are.used t lt) in
@@ -76,31 +76,33 @@ module _ (rows d first : ℕ) (owners starts places : List ℕ) (h : HasRest row
       × (code_of places (code_of starts t) ≡ first_row_of owners t)
   list_begins t lt =
       let f = rows_of owners in
+      let by = by_owner d owners starts places s in
       let row = some_row t lt in
-      let start : code_of starts t ≡ length (lists_to f t) = ap (λ (l : List ℕ). code_of l t) s.starts_are
+      let start : code_of starts t ≡ length (lists_to f t) = ap (λ (l : List ℕ). code_of l t) by.0
       ∙ begin_at f t (d + 1) (omega (arith, lt)) in
       let place : length (lists_to f t) + 0 ≡ length (lists_to f t) = omega arith in (
-        omega (arith, ap (λ (l : List ℕ). length l) s.starts_are, begins_count f (d + 1), lt),
+        omega (arith, ap (λ (l : List ℕ). length l) by.0, begins_count f (d + 1), lt),
         omega (
           arith,
           start,
           row.0,
           list_within_all f t d lt,
-          ap (λ (l : List ℕ). length l) s.places_are,
+          ap (λ (l : List ℕ). length l) by.1,
         ),
-        ap (code_of places) start ∙ ap (λ (l : List ℕ). code_of l (length (lists_to f t))) s.places_are
+        ap (code_of places) start ∙ ap (λ (l : List ℕ). code_of l (length (lists_to f t))) by.1
             ∙ ap (code_of (lists_to f d)) (sym place) ∙ list_item f t d 0 lt row.0 ∙ row.1,
       )
 
   pub starts_size : length starts ≡ d + 1
-  starts_size = ap (λ (l : List ℕ). length l) s.starts_are ∙ begins_count (rows_of owners) (d + 1)
+  starts_size = ap (λ (l : List ℕ). length l) (by_owner d owners starts places s).0
+      ∙ begins_count (rows_of owners) (d + 1)
 
 -- ---- by runs
 
 module _ (rows d first : ℕ) (owners : List ℕ) (runs : List KeyedRun) (h : HasRest rows d owners first)
     (s : AreRunsOf rows (lists_of d owners) runs) where
   size : length (lists_of d owners) ≡ d
-  size = length-map-range_with_len (rows_from 0 owners) 0 d
+  size = list_count d owners
 
   list_test : (t i : ℕ) → t < d → i < rows → has (list_in (lists_of d owners) t) i ≡ eqb (code_of owners i) t
   list_test t i lt row = ap (λ (l : List ℕ). has l i) (in_map (rows_from 0 owners) d t [] lt)

@@ -23,9 +23,7 @@ use Rattle.cla_packed.specs.Runs.{runs_bytes}
 use Rattle.cla_packed_laws.proofs.Forms.{IsForm, bind_ok, passed}
 use Rattle.cla_packed_laws.proofs.Offsets.{offsets_form}
 use Rattle.cla_packed_laws.proofs.Runs.{runs_form}
-use Rattle.cla_pack_reader.specs.declared.list.Listing.{Listing}
-use Rattle.cla_pack_reader.specs.declared.list.Listing.TheVariants.{Offsets, Runs}
-use Rattle.cla_pack_reader.specs.Listings.{rows_at}
+use Rattle.cla_pack_reader.specs.Listings.{Listing, AsOffsets, AsRuns, rows_at}
 use Rattle.cla_pack_reader.proofs.TupleLaws.{tuples_more}
 
 -- ---- tuples one behind the other
@@ -184,12 +182,12 @@ near_field k test group name p q n h =
     near_number k group name p q n (b.1 ∙ ap (λ (x : ℕ × Place). Ok x) c.1)
 
 pub list_bytes : Listing → ℕ → List ℕ → List ℕ
-list_bytes Offsets rows = offsets_bytes 32768 rows
-list_bytes Runs rows = runs_bytes
+list_bytes AsOffsets rows = offsets_bytes 32768 rows
+list_bytes AsRuns rows = runs_bytes
 
 pub list_form_of : (listing : Listing) (rows group : ℕ) → 0 < rows → rows < 2 ^ 31 → (earlier : List (List ℕ))
     → IsForm (rows_at listing rows group earlier) (IsList rows earlier) (list_bytes listing rows)
 unfolding list_bytes
-list_form_of Offsets rows group some few earlier =
+list_form_of AsOffsets rows group some few earlier =
     offsets_form 32768 rows group earlier (omega arith) (omega arith) some
-list_form_of Runs rows group some few earlier = runs_form rows group earlier (omega (arith, few))
+list_form_of AsRuns rows group some few earlier = runs_form rows group earlier (omega (arith, few))

@@ -7,20 +7,12 @@ use Rattle.std.specs.declared.cmp.PartialOrd as partial_ord
 use Rattle.std.specs.declared.hash.Hash as hash
 use Rattle.cla_num.specs.declared.number.Number as number
 use Rattle.cla_layout.specs.declared.kind.Kind.{Kind}
-use Rattle.cla_layout.specs.declared.kind.Kind.TheVariants as kinds
 use Rattle.cla_coded.specs.declared.any_group.AnyGroup.{AnyGroup}
 use Rattle.cla_coded.specs.declared.part.Part.{Part}
 use Rattle.cla_coded.specs.Tables.{TableOf}
 use Rattle.cla_coded.specs.AnyGroups.{any_codes, any_dictionary, any_form, form_of}
 use Rattle.cla_packed.specs.Bodies.{Body}
 use Rattle.cla_packed.specs.Files.{PackedGroup, PackedLayout}
-use Rattle.cla_pack_reader.specs.declared.list.Listing.{Listing}
-use Rattle.cla_pack_reader.specs.declared.list.Listing.TheVariants as listings
-
--- the kind of a group whose rows are listed so
-abbrev pub kind_listed : Listing → Kind
-kind_listed listings.Offsets = kinds.Offsets
-kind_listed listings.Runs = kinds.Runs
 
 module _ {N : Type 0} {n : number.Ghosts N} {o : ord.Ghosts N} {e : partial_eq.Ghosts N} {p : partial_ord.Ghosts N}
     {h : hash.Ghosts N} where

@@ -1,9 +1,9 @@
 -- The parts of a group that lists its tuples with their rows: its tuples, and the lists behind them.
-use Rattle.std.specs.Prelude.{◌≡◌, ℕ, ℤ, ◌+◌, ◌*◌, ◌<◌, ◌≤◌, ◌^◌, List, [], length, map, Bool, false, ◌==◌, not}
-use Rattle.std.specs.Prelude.{if◌then◌else◌, Option, is_some, slice_index_or}
+use Rattle.std.specs.Prelude.{◌≡◌, ℕ, ℤ, ◌*◌, ◌<◌, ◌≤◌, ◌^◌, List, [], length, map, Bool, false, ◌==◌, not}
+use Rattle.std.specs.Prelude.{◌⊎◌, if◌then◌else◌, Option, is_some, slice_index_or}
 use Rattle.cla_layout.specs.Groups.{first_row_of, IsGroup}
 use Rattle.cla_group.specs.Dictionaries.{DictionaryOf}
-use Rattle.cla_layout.specs.Listed.{is_zero, rows_of, rest_of, numbered_rest}
+use Rattle.cla_layout.specs.Listed.{is_zero, rest_of, numbered_rest}
 use Rattle.cla_layout.specs.Tuples.{tuples_of}
 use Rattle.cla_packed.specs.declared.fault.FieldName.TheVariants.{Cover}
 use Rattle.cla_packed.specs.Bodies.{Body}
@@ -11,9 +11,6 @@ use Rattle.cla_packed.specs.Codes.{has}
 use Rattle.cla_packed.specs.Fields.{Place, Read, checked_at, then_at, list_at, as_at}
 use Rattle.cla_packed.specs.Lists.{AreOwners, owners_of, lists_of}
 use Rattle.cla_packed.specs.Rests.{all_named, body_of_parts, listed_at}
-use Rattle.cla_rows.specs.Chains.{lists_to, begins_to}
-use Rattle.cla_runs.specs.declared.run_list.KeyedRun.{KeyedRun}
-use Rattle.cla_pack_reader.specs.ListedRows.{AreRunsOf}
 use Rattle.cla_pack_reader.specs.Places.{Places, Took}
 
 -- how the rows of one tuple are read, behind those of earlier ones
@@ -49,23 +46,11 @@ pub record HaveOwners (rows d : ℕ) (owners : List ℕ) (unlisted : Option ℕ)
   pub owners_are : AreOwners rows d owners
   pub unlisted_is : unlisted ≡ numbered_rest rows (first_row_of owners d)
 
--- the rows of d owners, one owner's behind the other's, and where those of each begin
-pub record AreRowsByOwner (d : ℕ) (owners starts places : List ℕ) : Type 0 where
-  pub starts_are : starts ≡ begins_to (rows_of owners) (d + 1)
-  pub places_are : places ≡ lists_to (rows_of owners) d
-
--- these lists were read, and there is a row without a list exactly where there is a rest
-abbrev pub CoversLists : ℕ → ℕ → Bool → Places → Places → (Place → Read (List (List ℕ) × Unit {0})) → List ℕ → List ℕ
-    → Option ℕ → Type 0
-CoversLists rows d has_rest b a read starts places unlisted = (lists : List (List ℕ)) × Took b a read (lists, tt)
-    × HaveOwners rows d (owners_of rows lists) unlisted × AreRowsByOwner d (owners_of rows lists) starts places
-    × (is_some unlisted ≡ has_rest)
-
--- the same as runs
-abbrev pub CoversRuns : ℕ → ℕ → Bool → Places → Places → (Place → Read (List (List ℕ) × Unit {0})) → List KeyedRun
-    → Option ℕ → Type 0
-CoversRuns rows d has_rest b a read runs unlisted = (lists : List (List ℕ)) × Took b a read (lists, tt)
-    × HaveOwners rows d (owners_of rows lists) unlisted × AreRunsOf rows (lists_of d (owners_of rows lists)) runs
+-- these lists were read, and their rows are kept; there is a row without a list exactly where there is a rest
+abbrev pub CoversRows : (ℕ → List (List ℕ) → Type 0) → ℕ → ℕ → Bool → Places → Places
+    → (Place → Read (List (List ℕ) × Unit {0})) → Option ℕ → Type 0
+CoversRows Are rows d has_rest b a read unlisted = (lists : List (List ℕ)) × Took b a read (lists, tt)
+    × HaveOwners rows d (owners_of rows lists) unlisted × Are rows (lists_of d (owners_of rows lists))
     × (is_some unlisted ≡ has_rest)
 
 -- how many rows and columns a group has
@@ -91,3 +76,10 @@ pub record IsDictionaryFor (bits width : ℕ) (codes : List ℕ) (rest : ℕ) (t
   pub group : IsGroup bits dictionary.width codes dictionary.tuples
   pub tuples_are : dictionary.tuples ≡ tuples
   pub rest_is : numbered_rest (length dictionary.tuples) rest ≡ rest_of codes dictionary.tuples
+
+-- rows as a group takes them: those of the codes but the rest, or each row is listed and the tuples are the codes
+abbrev pub AreGrouped : (ℕ → List (List ℕ) → Type 0) → (List ℕ → ℕ → ℕ → ℕ → ℕ → Type 0) → List ℕ → ℕ → ℕ → ℕ → ℕ
+    → Type 0
+AreGrouped Of Coded codes rows tuples rest first = Coded codes rows tuples rest first
+    ⊎ ((width : ℕ) × AreFewCells rows width × AreAllListed rows tuples codes × Of rows (lists_of tuples codes)
+    × (rest ≡ tuples) × (first ≡ rows))

@@ -6,23 +6,21 @@ ghost use Rattle.cla_io.specs.InputFrame.{ReadsOn};
 ghost use Rattle.cla_layout.specs.Tuples.{AreCodes};
 ghost use Rattle.cla_packed.specs.Bodies.{coded_at};
 ghost use Rattle.cla_packed.specs.Files.{plain_at, body_at};
-ghost use Rattle.cla_packed.specs.Rests.{listed_at};
 ghost use Rattle.cla_pack_reader.specs.Bodies.{body_seen};
-ghost use Rattle.cla_pack_reader.specs.Kept.{kind_listed, body_kept, HasForm};
-ghost use Rattle.cla_pack_reader.specs.Listings.{rows_at};
+ghost use Rattle.cla_pack_reader.specs.Kept.{body_kept, HasForm};
 ghost use Rattle.cla_pack_reader.specs.Places.{places_of, HasReadCause, Reads};
 
 use crate::coded::{GroupBody, coded_body};
-use crate::list::Listing;
-use crate::offset_group::offset_group;
+use crate::listed_group::listed_group;
 use crate::plain::plain_values;
-use crate::run_group::run_group;
 use cla_coded::AnyGroup;
 use cla_io::{Files, Input};
 use cla_layout::Kind;
 use cla_num::{Memory, Number};
 use cla_packed::PackFault;
 use cla_plain::Plain;
+use cla_rows::Grouped;
+use cla_runs::KeyedRun;
 use std::alloc::Global;
 
 fn plain_group<N: Number, F: Files>(
@@ -100,34 +98,6 @@ fn coded_group<N: Number, F: Files>(
     }
 }
 
-fn listed_group<N: Number, F: Files>(
-    alloc: Global,
-    input: &mut Input<'_, F>,
-    listing: Listing,
-    group: u32,
-    rows: u32,
-    width: u32,
-) -> Result<AnyGroup<N>, PackFault>
-    requires bits { IsSupported N.BITS }
-    requires some { 1 ≤ width }
-    requires a_row { 1 ≤ rows }
-    requires most { rows < 2 ^ 31 }
-    requires few { rows * width ≤ 2 ^ 26 }
-    ensures same_reference { input.new.files.ghost_name ≡ input.old.files.ghost_name }
-    ensures frame { ReadsOn (F.state input.old.files.now) (F.state input.new.files.now) }
-    ensures cause { HasReadCause (F.state input.old.files.now).read_faults (F.state input.new.files.now).read_faults
-        result }
-    ensures form { IfOk result (λ g. HasForm (kind_listed listing) g) }
-    ensures exact { let start = places_of input.old.taken (F.state input.old.files.now) in
-        let end = places_of input.new.taken (F.state input.new.files.now) in
-        Reads start end body_kept result (listed_at (rows_at listing rows group) 8 N.BITS group rows width) }
-{
-    match listing {
-        Listing::Offsets => offset_group(alloc, input, group, rows, width),
-        Listing::Runs => run_group(alloc, input, group, rows, width),
-    }
-}
-
 /// The group of this kind with `width` columns, behind the list of them. It is kept as the file has it.
 pub(crate) fn read_group<N: Number, F: Files>(
     alloc: Global,
@@ -154,7 +124,7 @@ pub(crate) fn read_group<N: Number, F: Files>(
     match kind {
         Kind::Plain => plain_group(alloc, input, group, rows, width),
         Kind::Codes => coded_group(alloc, input, group, rows, width),
-        Kind::Offsets => listed_group(alloc, input, Listing::Offsets, group, rows, width),
-        Kind::Runs => listed_group(alloc, input, Listing::Runs, group, rows, width),
+        Kind::Offsets => listed_group::<Grouped, N, F>(alloc, input, group, rows, width),
+        Kind::Runs => listed_group::<Vec<KeyedRun>, N, F>(alloc, input, group, rows, width),
     }
 }

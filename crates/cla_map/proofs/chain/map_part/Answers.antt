@@ -39,6 +39,7 @@ returns-clause-done g c =
       tells = done.tells;
       placed = done.placed;
       counts = subst (λ (m : Counts). AreRaised
-          (length tuples * length columns * g.M.Mapping.steps c.args.mapping.now) c.in_ok-first.first m c.map_tuples-found.new.meter)
+          (length tuples * length columns * g.M.Mapping.steps c.args.mapping.now) c.in_ok-first.first m
+          c.map_tuples-found.new.meter)
           c.replace-counts.ensures.value done.counts;
     }

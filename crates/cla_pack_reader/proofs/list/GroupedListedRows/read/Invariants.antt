@@ -1,0 +1,25 @@
+use Rattle.std.proofs.Common.{◌≡◌, List, [], length, ℕ}
+use Rattle.cla_io.specs.InputFrame.{ReadsOn}
+use Rattle.cla_packed.specs.Offsets.{offsets_at}
+use Rattle.cla_pack_reader.specs.Places.{places_of}
+use Rattle.cla_pack_reader.specs.Segments.{IsOffsetState}
+use Rattle.cla_pack_reader.specs.Walks.{at_start}
+use Rattle.cla_pack_reader.proofs.KeptLists.{AreChained}
+use Rattle.cla_pack_reader.proofs.Steps.{Decides}
+use Rattle.cla_pack_reader.proofs.list.GroupedListedRows.read.Given as goal
+
+-- what is left decides
+abbrev pub invariant-loop-t : goal.invariant-loop-t
+invariant-loop-t g l =
+    let start = g.F.Files.state l.fn.input.files.now in
+    let here = g.F.Files.state l.input.files.now in
+    record {
+      same_reference : l.input.files.ghost_name ≡ l.fn.input.files.ghost_name;
+      frame : ReadsOn start here;
+      no_fault : here.read_faults ≡ start.read_faults;
+      size : length l.marks ≡ l.rows;
+      so_far : (lists : List (List ℕ)) × IsOffsetState lists [] l.marks l.places.items at_start l.floor
+          × AreChained lists l.starts.items
+          × Decides (places_of l.fn.input.taken start) (places_of l.input.taken here)
+          (λ left earlier. offsets_at 32768 l.rows l.group earlier) l.d l._t lists;
+    }
