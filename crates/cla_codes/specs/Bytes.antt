@@ -20,6 +20,19 @@ bytes_of (suc w) n = n % 256 ∷ bytes_of w (n / 256)
 abbrev pub codes_in : ℕ → List ℕ → ℕ → List ℕ
 codes_in w bytes rows = map (λ i. number_at w bytes (i * w)) (range_with_len 0 rows)
 
+-- codes of rows, and how many bytes each of them takes
+pub record RowCodesOf : Type 0 where
+  pub width : ℕ
+  pub codes : List ℕ
+
+abbrev pub row_codes : ℕ → List ℕ → RowCodesOf
+row_codes w bytes = record { width = w; codes = codes_in w bytes (length bytes / w) }
+
+-- bytes are those of whole codes
+pub record AreRowCodes (w : ℕ) (bytes : List ℕ) : Type 0 where
+  pub width : is_code_width w ≡ true
+  pub whole : length bytes ≡ length bytes / w * w
+
 -- the first n codes are written
 pub record AreWritten (w n : ℕ) (codes bytes : List ℕ) : Type 0 where
   pub size : length bytes ≡ n * w

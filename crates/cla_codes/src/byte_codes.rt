@@ -1,14 +1,16 @@
 //! Rows that keep one code each, in bytes.
 
-ghost use Rattle.std.specs.Prelude.{◌≡◌, ◌<◌, ◌≤◌, ◌+◌, ◌-◌, ℕ, List, length, take, drop, IfOk};
+ghost use Rattle.std.specs.Prelude.{◌≡◌, ◌<◌, ◌≤◌, ◌+◌, ◌-◌, ◌*◌, ℕ, List, length, take, drop, true, IfOk};
 ghost use Rattle.cla_spec.specs.Matrix.{most_cells};
 ghost use Rattle.cla_layout.specs.Groups.{code_of, occurrences_of, first_row_of};
-ghost use Rattle.cla_codes.specs.Widths.{FitsWidth};
-ghost use Rattle.cla_codes.specs.Bytes.{AreWritten};
+ghost use Rattle.cla_rows.specs.Counted.{AreCounted};
+ghost use Rattle.cla_codes.specs.Widths.{FitsWidth, is_code_width};
+ghost use Rattle.cla_codes.specs.Bytes.{codes_in, AreWritten};
 
 use crate::bytes::{read_code, write_codes};
+use crate::row_codes::RowCodes;
 use cla_num::Memory;
-use cla_rows::{Occurrences, counted};
+use cla_rows::Occurrences;
 use std::alloc::Global;
 use std::marker::Model;
 
@@ -41,9 +43,41 @@ impl<const W: usize> ByteCodes<W> {
         ensures { IfOk result (λ r. r ≡ codes.now) }
     {
         let bytes = write_codes::<W>(alloc, codes)?;
-        let occurrences = counted(alloc, codes, tuples)?;
+        ByteCodes::from_bytes(alloc, codes.len() as u32, bytes, tuples)
+    }
+
+    /// These codes, which are below `tuples`, in their own bytes.
+    pub fn from_row_codes(
+        alloc: Global,
+        codes: RowCodes,
+        tuples: u32,
+    ) -> Result<ByteCodes<W>, Memory>
+        requires width { codes.width ≡ W }
+        requires below { (i : ℕ) → i < length codes.codes → code_of codes.codes i < tuples }
+        requires few { length codes.codes ≤ most_cells }
+        requires fits { FitsWidth W tuples }
+        ensures { IfOk result (λ r. r ≡ codes.codes) }
+    {
+        let bytes = codes.into_bytes();
+        ByteCodes::from_bytes(alloc, (bytes.len() / W) as u32, bytes, tuples)
+    }
+
+    // The codes of these rows, which are in these bytes.
+    fn from_bytes(
+        alloc: Global,
+        rows: u32,
+        bytes: Vec<u8>,
+        tuples: u32,
+    ) -> Result<ByteCodes<W>, Memory>
+        requires size { length bytes.items ≡ rows * W }
+        requires below { (i : ℕ) → i < rows → code_of (codes_in W bytes.items rows) i < tuples }
+        requires few { rows ≤ most_cells }
+        requires fits { FitsWidth W tuples }
+        ensures { IfOk result (λ r. r ≡ codes_in W bytes.items rows) }
+    {
+        let occurrences = counted::<W>(alloc, &bytes, rows, tuples)?;
         Ok(ByteCodes {
-            rows: codes.len() as u32,
+            rows,
             bytes,
             occurrences,
         })
@@ -110,4 +144,28 @@ impl<const W: usize> ByteCodes<W> {
     {
         &self.bytes
     }
+}
+
+// Counts the rows of each code, and finds the first, in one pass over the bytes of the rows.
+fn counted<const W: usize>(
+    alloc: Global,
+    bytes: &[u8],
+    rows: u32,
+    tuples: u32,
+) -> Result<Occurrences, Memory>
+    requires width { is_code_width W ≡ true }
+    requires size { length bytes.now ≡ rows * W }
+    requires below { (i : ℕ) → i < rows → code_of (codes_in W bytes.now rows) i < tuples }
+    requires few { rows ≤ most_cells }
+    ensures { let codes = codes_in W bytes.now rows in
+        IfOk result (λ found. AreCounted codes tuples found.counts.items found.first_rows.items) }
+{
+    let mut counts = vec![in alloc; 0; tuples as usize]?;
+    let mut first_rows = vec![in alloc; rows; tuples as usize]?;
+    for i in (0..rows).rev() {
+        let k = read_code::<W>(bytes, i) as usize;
+        counts[k] += 1;
+        first_rows[k] = i;
+    }
+    Ok(Occurrences { counts, first_rows })
 }

@@ -7,6 +7,7 @@ ghost use Rattle.cla_codes.specs.Widths.{FitsWidth};
 ghost use Rattle.cla_codes.specs.Bytes.{AreWritten};
 
 use crate::byte_codes::ByteCodes;
+use crate::row_codes::RowCodes;
 use cla_group::{Dictionary, Group, KeptRows, Owned, keep_rows};
 use cla_num::{Memory, Number};
 use std::alloc::Global;
@@ -45,6 +46,26 @@ impl<N: Number, const W: usize> Codes<N, W> {
         Codes::of_codes(alloc, Dictionary::of_values(width, values), codes)
     }
 
+    /// The group of rows with these codes, which takes over their bytes. The tuples are as above.
+    pub fn from_row_codes(
+        alloc: Global,
+        width: u32,
+        codes: RowCodes,
+        values: Vec<N>,
+    ) -> Result<Codes<N, W>, Memory>
+        requires bytes { codes.width ≡ W }
+        requires codes { AreCodes width (length values.items / width) codes.codes (length values.items) }
+        requires fits { FitsWidth W (length values.items / width) }
+        ensures columns { IfOk result (λ g. ⟦<Codes<N, W> as Group<N>>⟧.columns g ≡ width) }
+        ensures codes { IfOk result (λ g. ⟦<Codes<N, W> as Group<N>>⟧.codes g ≡ codes.codes) }
+        ensures dictionary { let tuples = tuples_of width (length values.items / width) (map N.value values.items) in
+            IfOk result (λ g. ⟦<Codes<N, W> as Group<N>>⟧.dictionary g ≡ tuples) }
+    {
+        let dictionary = Dictionary::of_values(width, values);
+        let rows = ByteCodes::from_row_codes(alloc, codes, dictionary.len())?;
+        Codes::of_rows(alloc, dictionary, rows)
+    }
+
     // The group of these tuples and codes.
     fn of_codes(
         alloc: Global,
@@ -57,6 +78,19 @@ impl<N: Number, const W: usize> Codes<N, W> {
         ensures codes { IfOk result (λ g. g.rows.value ≡ codes.now) }
     {
         let rows = ByteCodes::from_codes(alloc, codes, dictionary.len())?;
+        Codes::of_rows(alloc, dictionary, rows)
+    }
+
+    fn of_rows(
+        alloc: Global,
+        dictionary: Dictionary<N>,
+        rows: ByteCodes<W>,
+    ) -> Result<Codes<N, W>, Memory>
+        requires is { IsGroup N.BITS dictionary.width rows dictionary.tuples }
+        requires fits { FitsWidth W (length dictionary.tuples) }
+        ensures dictionary { IfOk result (λ g. g.dictionary ≡ dictionary) }
+        ensures codes { IfOk result (λ g. g.rows.value ≡ rows.entry) }
+    {
         Ok(Codes {
             dictionary,
             rows: Rc::new(alloc, rows)?,

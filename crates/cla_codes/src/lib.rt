@@ -4,5 +4,7 @@
 mod byte_codes;
 mod bytes;
 mod codes;
+mod row_codes;
 
 pub use codes::Codes;
+pub use row_codes::RowCodes;
