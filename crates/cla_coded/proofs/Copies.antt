@@ -1,24 +1,19 @@
 -- Equal parts, and a matrix as one part.
-use Rattle.std.proofs.Common.{◌≡◌, ℕ, ℤ, pos, zero, suc, ◌+◌, ◌<◌, ◌≤◌, List, [], ◌∷◌, ◌++◌, length, map, get_or}
-use Rattle.std.proofs.Common.{refl, ap, sym, ◌∙◌}
+use Rattle.std.proofs.Common.{◌≡◌, ℕ, ℤ, pos, ◌+◌, ◌<◌, ◌≤◌, List, [], ◌∷◌, ◌++◌, length, map, get_or}
+use Rattle.std.proofs.Common.{refl, sym, ◌∙◌}
 use Rattle.std.proofs.Common.{arith, inl, inr}
 use Rattle.std.specs.List.{range_with_len}
-use Rattle.std.proofs.lemmas.Bool.{cases_lt, lt-ltb}
-use Rattle.std.proofs.lemmas.List.{ext_get_or, get_or-map, length-map, append-nil, get_or_append_left, get_or_push}
+use Rattle.std.proofs.lemmas.Bool.{cases_lt}
+use Rattle.std.proofs.lemmas.List.{ext_get_or, get_or-map, length-map, get_or_append_left, get_or_push}
 use Rattle.std.proofs.lemmas.List.{length_push}
 use Rattle.std.proofs.lemmas.List.FromFn.{length-map-range_with_len, get_or-map-range_with_len}
-use Rattle.cla_spec.specs.Numbers.{InRange}
-use Rattle.cla_spec.specs.Matrix.{Matrix, row_by_row, IsShaped}
-use Rattle.cla_layout.specs.Groups.{at, occurrences_of}
+use Rattle.cla_spec.specs.Matrix.{Matrix}
+use Rattle.cla_layout.specs.Groups.{at}
 use Rattle.cla_layout.specs.Tuples.{tuples_of}
 use Rattle.cla_group.specs.Rows.{ArePlaces, projected}
 use Rattle.cla_layout.proofs.Loose.{first_rise}
-use Rattle.cla_layout.proofs.Counting.{rows_count, code_is, occurs_once, first_row_is, plain_group}
-use Rattle.cla_layout.proofs.Tuples.{tuple_value}
-use Rattle.cla_layout.proofs.Regroup.{first_row_there, code_of_first_row}
-use Rattle.cla_coded.specs.Outlines.{OutlineOf}
-use Rattle.cla_layout.specs.Layouts.{LayoutPart, IsWhole, IsPart, index_of, part_at, entry_in, matrix_in, loose_layout}
-use Rattle.cla_layout.proofs.Matrices.{same_matrix}
+use Rattle.cla_layout.proofs.Counting.{rows_count, code_is}
+use Rattle.cla_layout.specs.Layouts.{LayoutPart, loose_layout}
 
 -- one more column
 pub columns_more : (n : ℕ) → range_with_len 0 n ++ n ∷ [] ≡ range_with_len 0 (n + 1)

@@ -5,8 +5,9 @@ ghost use Rattle.cla_layout.specs.Groups.{AreNumbered};
 ghost use Rattle.cla_group.specs.Rows.{AreRowsFrom, ArePlaces, projected};
 ghost use Rattle.cla_layout.specs.Tuples.{AreCodes, tuples_of};
 ghost use Rattle.cla_coded.specs.AnyGroups.{any_columns, any_codes, any_dictionary, any_form, form_cut, IsGroupFrom};
+ghost use Rattle.cla_coded.specs.AnyGroups.{least_code_bytes};
 
-use cla_codes::Codes;
+use cla_codes::{Codes, RowCodes};
 use cla_group::{Group, Kind, Owned, values_in_order};
 use cla_num::{Memory, Number, Wide};
 use cla_offsets::Offsets;
@@ -98,6 +99,27 @@ impl<N: Number> AnyGroup<N> {
                 let group = Runs::from_codes(alloc, width, codes, values)?;
                 Ok(AnyGroup::Runs(group))
             }
+        }
+    }
+
+    /// The group of one code for each row with these codes, whose bytes it takes over. They are the
+    /// fewest that can name the tuples, which are as above.
+    pub fn from_row_codes(
+        alloc: Global,
+        width: u32,
+        codes: RowCodes,
+        values: Vec<N>,
+    ) -> Result<AnyGroup<N>, Memory>
+        requires codes { AreCodes width (length values.items / width) codes.codes (length values.items) }
+        requires fewest { codes.width ≡ least_code_bytes (length values.items / width) }
+        ensures { let tuples = tuples_of width (length values.items / width) (map N.value values.items) in
+            IfOk result (λ g. IsGroupFrom Kind.Codes width codes.codes tuples (any_form g) (any_columns g)
+            (any_codes g) (any_dictionary g)) }
+    {
+        match codes.width() {
+            1 => Ok(AnyGroup::Codes1(Codes::from_row_codes(alloc, width, codes, values)?)),
+            2 => Ok(AnyGroup::Codes2(Codes::from_row_codes(alloc, width, codes, values)?)),
+            _ => Ok(AnyGroup::Codes4(Codes::from_row_codes(alloc, width, codes, values)?)),
         }
     }
 }

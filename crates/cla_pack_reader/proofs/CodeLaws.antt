@@ -3,6 +3,10 @@ use Rattle.std.proofs.Common.{◌≡◌, ℕ, ◌+◌, ◌-◌, ◌<◌, ◌≤�
 use Rattle.std.proofs.Common.{◌∙◌, arith, inl, inr}
 use Rattle.std.specs.Prelude.{nat_lt, nat_le, ◌&&◌, ◌||◌, not}
 use Rattle.std.proofs.lemmas.Bool.{cases_lt, lt-ltb, le-ltb, lt-leb, eq-eqb, ne_eqb, and_left, and_right}
+use Rattle.std.specs.Prelude.{true}
+use Rattle.std.proofs.lemmas.Bool.Decides.{nat_tests}
+use Rattle.cla_io.specs.Numbers.{is_number_width}
+use Rattle.cla_codes.specs.Widths.{is_code_width}
 use Rattle.cla_packed.specs.declared.fault.FieldName.{FieldName}
 use Rattle.cla_packed.specs.declared.fault.PackFault.{PackFault}
 use Rattle.cla_packed.specs.Codes.{different, fits_code}
@@ -10,6 +14,10 @@ use Rattle.cla_packed.specs.Fields.{field_at}
 use Rattle.cla_packed_laws.proofs.Codes.{AreThoseBelow, none_below, different_push}
 use Rattle.cla_pack_reader.specs.Places.{Places, Took, Refused}
 use Rattle.cla_pack_reader.specs.Seen.{seen_with, fits_seen}
+
+-- as many bytes as a code takes, a number can take
+pub number_width : (k : ℕ) → is_code_width k ≡ true → is_number_width k ≡ true
+number_width k is = grind (arith, nat_tests)
 
 -- tests that agree make the same field
 pub took_same : (k group : ℕ) (name : FieldName) (f g : ℕ → Bool) (b a : Places) (n : ℕ) → ((m : ℕ) → f m ≡ g m)

@@ -1,6 +1,7 @@
 //! The codes of rows.
 
 ghost use Rattle.std.specs.Prelude.{◌≡◌, ◌<◌, ◌≤◌, ◌^◌, true, IfOk};
+ghost use Rattle.cla_codes.specs.Widths.{is_code_width};
 ghost use Rattle.cla_io.specs.InputFrame.{ReadsOn};
 ghost use Rattle.cla_io.specs.Numbers.{is_number_width};
 ghost use Rattle.cla_packed.specs.declared.fault.FieldName.TheVariants.{Code};
@@ -10,6 +11,7 @@ ghost use Rattle.cla_pack_reader.specs.Places.{places_of, HasReadCause, Reads};
 ghost use Rattle.cla_pack_reader.specs.Seen.{fits_seen};
 
 use crate::fields::number;
+use cla_codes::RowCodes;
 use cla_io::{Files, Input};
 use cla_packed::{FieldName, PackFault};
 use std::alloc::Global;
@@ -71,7 +73,7 @@ fn code_of<F: Files>(
     Ok(code as u32)
 }
 
-/// The codes of `rows` rows among `d` tuples, k bytes each.
+/// The codes of `rows` rows among `d` tuples, k bytes each, as a group keeps them.
 pub(crate) fn codes_of<F: Files>(
     alloc: Global,
     input: &mut Input<'_, F>,
@@ -79,17 +81,19 @@ pub(crate) fn codes_of<F: Files>(
     group: u32,
     d: u32,
     rows: u32,
-) -> Result<Vec<u32>, PackFault>
-    requires { is_number_width k ≡ true }
+) -> Result<RowCodes, PackFault>
+    requires width { is_code_width k ≡ true }
+    requires fits { d ≤ 256 ^ k }
     ensures same_reference { input.new.files.ghost_name ≡ input.old.files.ghost_name }
     ensures frame { ReadsOn (F.state input.old.files.now) (F.state input.new.files.now) }
     ensures cause { HasReadCause (F.state input.old.files.now).read_faults (F.state input.new.files.now).read_faults
         result }
     ensures exact { let before = places_of input.old.taken (F.state input.old.files.now) in
         let after = places_of input.new.taken (F.state input.new.files.now) in
-        Reads before after (λ codes. codes.items) result (codes_at k group d rows) }
+        Reads before after (λ codes. codes.codes) result (codes_at k group d rows) }
+    ensures width { IfOk result (λ codes. codes.width ≡ k) }
 {
-    let mut codes = Vec::new(alloc);
+    let mut codes = RowCodes::new(alloc, k);
     let mut seen = 0;
     for i in 0..rows {
         match code_of(input, k, group, d, seen, i + 1 == rows) {

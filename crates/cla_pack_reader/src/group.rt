@@ -1,10 +1,11 @@
 //! The groups behind their columns.
 
-ghost use Rattle.std.specs.Prelude.{◌≡◌, ◌≢◌, ◌*◌, ◌/◌, ◌≤◌, ◌<◌, ◌^◌, length, IfOk};
+ghost use Rattle.std.specs.Prelude.{◌≡◌, ◌*◌, ◌/◌, ◌≤◌, ◌<◌, ◌^◌, length, IfOk};
 ghost use Rattle.cla_num.specs.Bits.{IsSupported};
 ghost use Rattle.cla_io.specs.InputFrame.{ReadsOn};
 ghost use Rattle.cla_layout.specs.Tuples.{AreCodes};
 ghost use Rattle.cla_packed.specs.Bodies.{coded_at};
+ghost use Rattle.cla_packed.specs.Codes.{code_bytes};
 ghost use Rattle.cla_packed.specs.Files.{plain_at, body_at};
 ghost use Rattle.cla_pack_reader.specs.Bodies.{body_seen};
 ghost use Rattle.cla_pack_reader.specs.Kept.{body_kept, HasForm};
@@ -49,22 +50,21 @@ fn plain_group<N: Number, F: Files>(
     }
 }
 
-// The group of this kind, which isn't plain, with these codes and tuples.
+// The group with these codes, whose bytes it takes over, and these tuples.
 fn from_body<N: Number>(
     alloc: Global,
-    kind: Kind,
     width: u32,
     body: GroupBody<N>,
 ) -> Result<AnyGroup<N>, Memory>
-    requires kind { kind ≢ Kind.Plain }
     requires codes { let values = length body.values.items in
-        AreCodes width (values / width) body.codes.items values }
-    ensures form { IfOk result (λ g. HasForm kind g) }
-    ensures body { let seen = body_seen N.value width body.codes.items body.values.items in
+        AreCodes width (values / width) body.codes.codes values }
+    requires fewest { body.codes.width ≡ code_bytes (length body.values.items / width) }
+    ensures form { IfOk result (λ g. HasForm Kind.Codes g) }
+    ensures body { let seen = body_seen N.value width body.codes.codes body.values.items in
         IfOk result (λ g. body_kept g ≡ seen) }
 {
     let GroupBody { codes, values } = body;
-    AnyGroup::from_codes(alloc, kind, width, &codes, values)
+    AnyGroup::from_row_codes(alloc, width, codes, values)
 }
 
 fn coded_group<N: Number, F: Files>(
@@ -92,7 +92,7 @@ fn coded_group<N: Number, F: Files>(
         Ok(body) => body,
         Err(fault) => return Err(fault),
     };
-    match from_body(alloc, Kind::Codes, width, body) {
+    match from_body(alloc, width, body) {
         Ok(group) => Ok(group),
         Err(Memory) => Err(PackFault::Memory),
     }

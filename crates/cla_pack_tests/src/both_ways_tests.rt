@@ -110,3 +110,26 @@ fn lists_over_segments_come_back(rt: HostRuntime) -> Result<(), Fail> {
     assert_eq!(rt; comes_back(rt.alloc(), &m)?, true);
     Ok(())
 }
+
+// A column of so many rows, which go over the numbers from 1 to `values` in turn.
+fn column_in_turn(alloc: Global, rows: u32, values: u32) -> Result<Dense<Entry>, Fail> {
+    if values == 0 {
+        return Err(Fail::new("no values"));
+    }
+    let mut column = Vec::new(alloc);
+    for row in 0..rows {
+        column.push(1 + (row % values) as i64)?;
+    }
+    matrix(alloc, rows, 1, &column)
+}
+
+#[test]
+fn codes_of_more_bytes_come_back(rt: HostRuntime) -> Result<(), Fail> {
+    for (rows, values) in [(3_000, 1_000), (210_000, 70_000)] {
+        let m = column_in_turn(rt.alloc(), rows, values)?;
+        // (the kind of the first group: codes)
+        assert_eq!(rt; packed(rt.alloc(), &m)?.get(20).copied(), Some(2));
+        assert_eq!(rt; comes_back(rt.alloc(), &m)?, true);
+    }
+    Ok(())
+}

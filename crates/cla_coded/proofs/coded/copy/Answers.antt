@@ -1,5 +1,4 @@
-use Rattle.std.proofs.Common.{◌≡◌, ◌≤◌, ◌∙◌, ℕ, List, length, map, take, ap, sym}
-use Rattle.std.proofs.lemmas.List.{length-map, take_all}
+use Rattle.std.proofs.Common.{◌∙◌, map, ap, sym}
 use Rattle.cla_layout.specs.Layouts.{layout_with}
 use Rattle.cla_coded.specs.Outlines.{outline}
 use Rattle.cla_coded.specs.Parts.{part_of}

@@ -1,7 +1,7 @@
-use Rattle.std.proofs.Common.{ℕ, length, map, subst}
+use Rattle.std.proofs.Common.{ℕ, length, map, subst, ap, ◌∙◌}
 use Rattle.cla_layout.specs.Tuples.{tuples_of}
 use Rattle.cla_packed.specs.Bodies.{coded_at}
-use Rattle.cla_packed.specs.Codes.{codes_at}
+use Rattle.cla_packed.specs.Codes.{codes_at, code_bytes}
 use Rattle.cla_pack_reader.specs.Places.{places_of, Took, Refused}
 use Rattle.cla_pack_reader.proofs.Steps.{follows}
 use Rattle.cla_pack_reader.proofs.CodedLaws.{tuples_in, whole_in, with_codes, coded_count, coded_tuples, coded_codes}
@@ -50,7 +50,7 @@ returns-in-Ok-codes_of-clause-exact g c =
     let width = c.args.width in
     let d = c.in-Ok.d in
     let values = map g.N.Number.value c.in-Ok-tuples.values.items in
-    let codes = c.in-Ok-codes_of.codes.items in
+    let codes = c.in-Ok-codes_of.codes.codes in
     let count = tuples_in width d (length c.in-Ok-tuples.values.items) c.requires.some c.in-Ok-tuples.ensures.count in
     subst (λ (n : ℕ). Took b a (coded_at 8 bits c.args.group c.args.rows width)
     (with_codes codes (tuples_of width n values))) count
@@ -62,3 +62,10 @@ returns-in-Ok-codes_of-clause-exact g c =
 pub returns-in-Ok-codes_of-clause-whole : goal.returns-in-Ok-codes_of-clause-whole
 returns-in-Ok-codes_of-clause-whole g c =
     whole_in c.args.width c.in-Ok.d c.in-Ok-tuples.values.items c.requires.some c.in-Ok-tuples.ensures.count
+
+pub returns-in-Ok-codes_of-clause-fewest : goal.returns-in-Ok-codes_of-clause-fewest
+returns-in-Ok-codes_of-clause-fewest g c =
+    let width = c.args.width in
+    let values = c.in-Ok-tuples.values.items in
+    let count = tuples_in width c.in-Ok.d (length values) c.requires.some c.in-Ok-tuples.ensures.count in
+    c.in-Ok-codes_of.ensures.width ∙ c.code_bytes.ensures.bytes ∙ ap code_bytes count

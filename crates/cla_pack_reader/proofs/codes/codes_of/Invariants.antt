@@ -16,9 +16,10 @@ invariant-loop-i g l =
     record {
       same_reference : l.input.files.ghost_name ≡ l.fn.input.files.ghost_name;
       frame : ReadsOn start here;
+      width : l.codes.width ≡ l.k;
       no_fault : here.read_faults ≡ start.read_faults;
-      seen : l.seen ≡ different l.codes.items;
-      below : AreThoseBelow (different l.codes.items) l.codes.items;
+      seen : l.seen ≡ different l.codes.codes;
+      below : AreThoseBelow (different l.codes.codes) l.codes.codes;
       so_far : Decides (places_of l.fn.input.taken start) (places_of l.input.taken here)
-          (λ left so_far. field_at l.k (fits_code l.d left so_far) l.group Code) l.rows l.i l.codes.items;
+          (λ left so_far. field_at l.k (fits_code l.d left so_far) l.group Code) l.rows l.i l.codes.codes;
     }

@@ -12,7 +12,7 @@ from_body-requires-clause-codes g c =
     let t1 = c.coded_body.new.input.taken in
     let s1 = g.F.Files.state c.coded_body.new.input.files.now in
     let bits = g.N.Number.BITS in
-    let codes = c.in-Ok.body.codes.items in
+    let codes = c.in-Ok.body.codes.codes in
     let values = c.in-Ok.body.values.items in
     codes_are g.N.Number.value bits c.args.rows c.args.width codes values c.requires.a_row c.requires.some
     c.requires.few c.in-Ok.ensures.whole
