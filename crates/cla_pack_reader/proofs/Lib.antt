@@ -12,6 +12,7 @@ pub mod RunLaws
 pub mod HeaderLaws
 pub mod CodeLaws
 pub mod TupleLaws
+pub mod HashLaws
 pub mod CodedLaws
 pub mod HeadLaws
 pub mod CoveringLaws

@@ -1,11 +1,12 @@
 -- Tuples of values that stand tuple after tuple, and the set of those that were seen.
 use Rattle.std.proofs.Common.{◌≡◌, ℕ, ℤ, pos, ◌+◌, ◌*◌, ◌-◌, ◌<◌, Bool, true, false, List, [], ◌∷◌, ◌++◌, length, map}
-use Rattle.std.proofs.Common.{drop, refl, sym, ap, ◌∙◌, arith}
+use Rattle.std.proofs.Common.{take, drop, refl, sym, ap, ◌∙◌, arith}
 use Rattle.std.specs.Prelude.{◌&&◌, not}
-use Rattle.std.specs.List.{list_any, range_with_len}
+use Rattle.std.specs.List.{range_with_len}
 use Rattle.std.specs.Ordering.{int_eq}
 use Rattle.std.specs.Cmp.Lexicographic.{pointwise}
-use Rattle.std.proofs.lemmas.List.{length-map, drop-map, drop_at, ext_get_or, get_or_append_left, get_or-append_right}
+use Rattle.std.proofs.lemmas.List.{length-map, drop-map, take-map, take_at, drop_at, ext_get_or}
+use Rattle.std.proofs.lemmas.List.{get_or_append_left, get_or-append_right}
 use Rattle.std.proofs.lemmas.List.FromFn.{length-map-range_with_len, get_or-map-range_with_len, map-range_with_len_more}
 use Rattle.std.proofs.lemmas.Bool.{and_left, and_right, and_from, not_from_true, not_from_false}
 use Rattle.cla_layout.specs.Groups.{at}
@@ -16,18 +17,12 @@ use Rattle.cla_packed.specs.Values.{is_among}
 use Rattle.cla_pack_reader.specs.Tuples.{fits_tuple}
 
 module _ {N : Type 0} (value : N → ℤ) (eq : N → N → Bool) (same : (x y : N) → eq x y ≡ int_eq (value x) (value y)) where
-  pointwise_same : (xs ys : List N) → pointwise eq xs ys ≡ pointwise int_eq (map value xs) (map value ys)
+  -- tuples are compared by their integers
+  pub pointwise_same : (xs ys : List N) → pointwise eq xs ys ≡ pointwise int_eq (map value xs) (map value ys)
   pointwise_same [] [] = refl
   pointwise_same [] (y ∷ ys) = refl
   pointwise_same (x ∷ xs) [] = refl
   pointwise_same (x ∷ xs) (y ∷ ys) = rw (same x y, pointwise_same xs ys) refl
-
-  -- whether a set has a tuple
-  pub among_same : {V : Type 0} (items : V → List N) (v : V) (keys : List V)
-      → list_any (λ k. pointwise eq (items v) (items k)) keys
-      ≡ is_among (map (λ k. map value (items k)) keys) (map value (items v))
-  among_same items v [] = refl
-  among_same items v (k ∷ keys) = rw (pointwise_same (items v) (items k), among_same items v keys) refl
 
 module _ (width n : ℕ) (values tuple : List ℤ) (whole : length values ≡ n * width) (full : length tuple ≡ width) where
   before : (q : ℕ) → q < n → tuple_at width (values ++ tuple) q ≡ tuple_at width values q
@@ -70,6 +65,13 @@ pub key_is : {N : Type 0} (value : N → ℤ) (old new : List N) (tuple : List �
 key_is value old new tuple n more here =
     sym (drop-map value n new) ∙ ap (λ (vs : List ℤ). drop n vs) more
     ∙ drop_at (map value old) tuple n (length-map old value ∙ sym here)
+
+-- and those before them are as they were
+pub front_is : {N : Type 0} (value : N → ℤ) (old new : List N) (tuple : List ℤ) (n : ℕ)
+    → map value new ≡ map value old ++ tuple → n ≡ length old → map value (take n new) ≡ map value old
+front_is value old new tuple n more here =
+    sym (take-map value n new) ∙ ap (λ (vs : List ℤ). take n vs) more
+    ∙ take_at (map value old) tuple n (length-map old value ∙ sym here)
 
 module _ (listed : Bool) (before : List (List ℤ)) (tuple : List ℤ) where
   pub zero_unfit : (listed && is_zero tuple) ≡ true → fits_tuple listed before tuple ≡ false

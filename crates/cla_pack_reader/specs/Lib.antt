@@ -8,6 +8,7 @@ pub mod Runs
 pub mod Listings
 pub mod Headers
 pub mod Seen
+pub mod Hashes
 pub mod Tuples
 pub mod Bodies
 pub mod Bits

@@ -1,5 +1,5 @@
 -- What reading the tuples of a group gives.
-use Rattle.std.specs.Prelude.{◌≡◌, ℕ, ℤ, List, [], ◌∷◌, ◌++◌, length, map, Bool, ◌&&◌, not, Result, Ok, Err}
+use Rattle.std.specs.Prelude.{◌≡◌, ℕ, ℤ, List, ◌++◌, length, map, Bool, ◌&&◌, not, Result, Ok, Err}
 use Rattle.std.specs.declared.vec.Vec.{Vec}
 use Rattle.std.specs.declared.alloc.Global.{Global}
 use Rattle.cla_layout.specs.Listed.{is_zero}
@@ -13,12 +13,12 @@ abbrev pub fits_tuple : Bool → List (List ℤ) → List ℤ → Bool
 fits_tuple listed before tuple = not (is_among before tuple) && not (listed && is_zero tuple)
 
 -- one tuple more, or the fault
-abbrev pub GivesNext : {N : Type 0} → (N → ℤ) → ℕ → ℕ → ℕ → ℕ → Bool → List (List ℤ) → List (List ℤ) → Places → Places
+abbrev pub GivesNext : {N : Type 0} → (N → ℤ) → ℕ → ℕ → ℕ → ℕ → Bool → List (List ℤ) → Places → Places
     → List N → List N → Result (Unit {0}) PackFault → Type 0
-GivesNext value k bits group width listed before after b a old new (Ok u) = (tuple : List ℤ)
-    × (map value new ≡ map value old ++ tuple) × (length tuple ≡ width) × (after ≡ before ++ tuple ∷ [])
+GivesNext value k bits group width listed before b a old new (Ok u) = (tuple : List ℤ)
+    × (map value new ≡ map value old ++ tuple) × (length tuple ≡ width)
     × Took b a (tuple_at k bits group width (fits_tuple listed before)) tuple
-GivesNext value k bits group width listed before after b a old new (Err e) =
+GivesNext value k bits group width listed before b a old new (Err e) =
     Refused b (tuple_at k bits group width (fits_tuple listed before)) e
 
 -- all tuples, or the fault

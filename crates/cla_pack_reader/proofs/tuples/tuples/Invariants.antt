@@ -1,7 +1,8 @@
-use Rattle.std.proofs.Common.{◌≡◌, ◌*◌, length, map}
+use Rattle.std.proofs.Common.{◌≡◌, length, map}
 use Rattle.cla_io.specs.InputFrame.{ReadsOn}
 use Rattle.cla_layout.specs.Tuples.{tuples_of}
 use Rattle.cla_packed.specs.Values.{tuple_at}
+use Rattle.cla_pack_reader.specs.Hashes.{AreHashed}
 use Rattle.cla_pack_reader.specs.Places.{places_of}
 use Rattle.cla_pack_reader.specs.Tuples.{fits_tuple}
 use Rattle.cla_pack_reader.proofs.Steps.{Decides}
@@ -19,8 +20,8 @@ invariant-loop-k g l =
       same_reference : l.input.files.ghost_name ≡ l.fn.input.files.ghost_name;
       frame : ReadsOn start here;
       no_fault : here.read_faults ≡ start.read_faults;
-      count : length l.values.items ≡ l._k * l.width;
-      seen : map (λ v. map value v.items) l.seen.keys ≡ tuples;
+      many : length l.seen ≡ l._k;
+      hashed : AreHashed g.N.Hash.hash_input l.width l.values.items l.seen;
       so_far : Decides (places_of l.fn.input.taken start) (places_of l.input.taken here)
           (λ left before. tuple_at 8 bits l.group l.width (fits_tuple l.listed before)) l.n l._k tuples;
     }
